@@ -1,9 +1,7 @@
 -- The parts of a whole text, put together.
 use Rattle.std.proofs.Common.{◌≡◌, ℕ, ◌<◌, ◌≤◌, Bool, true, false, List, Result, Ok, Err, length, refl, ap, ◌∙◌, lt-ltb, le-ltb, if◌then◌else◌, arith}
 use Rattle.std.specs.Prelude.{string_bytes}
-use Rattle.rox_grammar.specs.declared.fault.Fault.{Fault}
 use Rattle.rox_grammar.specs.declared.fault.Fault.TheVariants as fault
-use Rattle.rox_grammar.specs.FixedTexts.{at}
 use Rattle.rox_grammar.specs.TextStart.{after_bom}
 use Rattle.rox_grammar.specs.Forest.{Forest}
 use Rattle.rox_grammar.specs.Written.{Item}

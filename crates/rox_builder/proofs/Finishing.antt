@@ -7,14 +7,13 @@ use Rattle.rox_grammar.specs.Written.{Item, merge}
 use Rattle.rox_grammar.specs.Tree.{Node, document_tree}
 use Rattle.rox_grammar.specs.State.{root}
 use Rattle.rox_reading.proofs.Forests.{size-resolved}
-use Rattle.rox_rows.specs.Rows.{RowView, preorder_rows, attribute_rows}
+use Rattle.rox_rows.specs.Rows.{RowView, preorder_rows, attribute_rows, node_rows}
 use Rattle.rox_names.specs.Tables.{HoldsTree, Sound}
 use Rattle.rox_builder.specs.OpenRows.{root_line, so_far}
 use Rattle.rox_builder.specs.BuilderState.{IsRowWithin, AreSound, RepresentsFlushed, line_in}
 use Rattle.rox_rows.specs.declared.row.NodeData.{NodeData}
 use Rattle.rox_names.specs.declared.tables.Tables.{Tables}
 use Rattle.rox_builder.specs.declared.builder.Builder.{Builder}
-use Rattle.rox_rows.specs.Rows.{node_rows}
 use Rattle.rox_builder.proofs.Showing.{rows_count, within_set, within_at, some_row, first_within}
 
 root_closed : (end : ℕ) (f : Forest Item) (n : ℕ) → n ≡ 0 + 1 + size f

@@ -7,12 +7,12 @@ use Rattle.rox_grammar.specs.Forest.{Forest}
 use Rattle.rox_grammar.specs.Written.{Item, NamespaceDecl}
 use Rattle.rox_grammar.specs.State.{Open}
 use Rattle.rox_grammar.specs.Tree.{element_namespace}
-use Rattle.rox_rows.specs.Rows.{row_view, NamespaceWithin, KindWithin, numbered_place, AttributeRow, attribute_rows}
+use Rattle.rox_rows.specs.Rows.{row_view, NamespaceWithin, KindWithin, numbered_place, AttributeRow, attribute_rows, node_rows}
 use Rattle.rox_reading.specs.AtIndex.{namespace_at, scope_at, OptionWithin}
 use Rattle.rox_scopes.specs.NamespaceViews.{namespace_view}
 use Rattle.rox_scopes.specs.Scopes.{PrefixesOnce}
 use Rattle.rox_names.specs.TagScopes.{lists_in}
-use Rattle.rox_builder.specs.BuilderState.{opened, opened_in, names_in, line_in, IsRowWithin, AreSound, HasEmpty, Represents, Grown}
+use Rattle.rox_builder.specs.BuilderState.{opened, names_in, line_in, IsRowWithin, AreSound, HasEmpty, Represents, Grown}
 use Rattle.rox_names.specs.OpenElements.{IsOpenWithin, HasName, IsNamespaceOf, open_name}
 use Rattle.rox_rows.specs.declared.row.NodeData.{NodeData}
 use Rattle.rox_names.specs.declared.tables.ElementTables.{ElementTables}
@@ -21,7 +21,6 @@ use Rattle.rox_builder.specs.declared.builder.Builder.{Builder}
 use Rattle.rox_reading.proofs.Lists.{all_weaker, map_same}
 use Rattle.rox_reading.proofs.AtIndex.{scope_at-append, namespace_at-append, option_more}
 use Rattle.rox_rows.proofs.Stable.{lines-append, kind_more}
-use Rattle.rox_rows.specs.Rows.{node_rows}
 use Rattle.rox_scopes.proofs.Ropes.{length-lists}
 
 opened-append : (lists more : List (List NamespaceDecl)) (o : OpenElement) → o.scope < length lists → opened (lists ++ more) o ≡ opened lists o
@@ -83,7 +82,6 @@ grown_shows end o done b u h sound elements g nodes opens waits joined =
     ∙ ap (λ (ns : List NamespaceDecl). map (row_view ((attribute_rows t.attributes) ++ g.more_attributes) ns (lists_in u.tables)) (node_rows b.nodes)) g.namespaces
     ∙ ap (λ (ls : List (List NamespaceDecl)). map (row_view ((attribute_rows t.attributes) ++ g.more_attributes) (names_in t ++ g.more_names) ls) (node_rows b.nodes)) g.lists
     ∙ lines-append (attribute_rows t.attributes) g.more_attributes (names_in t) g.more_names (lists_in t) g.more_lists (node_rows b.nodes) all_attributes all_rows in
-    let os : opened_in u.tables b.opened.items ≡ opened_in t b.opened.items = grind (arith, map_same, opened-append) in
     let k = grown_counts t u.tables g in
     let w = all_weaker (λ (r : NodeData). IsRowWithin t r.kind) (λ (r : NodeData). IsRowWithin u.tables r.kind) (node_rows b.nodes)
     (λ r x. kind_more (length (attribute_rows t.attributes)) (length t.namespaces.items.items) (length t.scopes.items) (length (attribute_rows u.tables.attributes)) (length u.tables.namespaces.items.items) (length u.tables.scopes.items) r.kind k.0 k.1 k.2 x) h.within in
@@ -94,6 +92,6 @@ grown_shows end o done b u h sound elements g nodes opens waits joined =
       is_last = rw (waits, joined) h.is_last;
       clean = h.clean;
       rows = rw (waits, nodes) (rows ∙ h.rows);
-      open_rows = rw opens (os ∙ h.open_rows);
+      open_rows = rw opens ((grind (arith, map_same, opened-append)) ∙ h.open_rows);
       within = rw nodes w;
     }

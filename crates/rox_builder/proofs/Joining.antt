@@ -112,13 +112,10 @@ pub part_over : (total : ℕ) (s : State) (b m : Builder) (before start stop : �
 part_over total s b m before start stop [] e sh h more none over is = absurd (some_there b m before h more)
 part_over total s b m before start stop (x ∷ xs) e sh h more none over is =
     let v : List ℕ = x ∷ xs in
-    let was : b.pending ≡ pending.None = sym h.pending ∙ none in
     let t : State = record { at = stop; done = join s.done (leaf (Text start stop v false)); stack = s.stack; openings_left = s.openings_left } in
-    let n = first_count total s.stack s.done b start stop v false sh was in
+    let n = first_count total s.stack s.done b start stop v false sh (sym h.pending ∙ none) in
     let len = count_nodes b.nodes in
-    let rows = ap (λ (n : NodeTable). vec_len n.rows) h.nodes in
-    let w = ap waiting none in
-    rw is (counted_err m.nodes_limit t (omega (arith, over, rows, w)))
+    rw is (counted_err m.nodes_limit t (omega (arith, over, (ap (λ (n : NodeTable). vec_len n.rows) h.nodes), (ap waiting none))))
 
 -- a part of the main text, and its piece
 part_with : (context : Context) (src : List ℕ) (start stop : ℕ) (s t : State) (bs : List ℕ) (next : Next) → context.values.main ≡ true
@@ -161,8 +158,7 @@ pub run_read : (context : Context) (src : List ℕ) (s t : State) → s.at < len
     → length src ≤ t.at → depth_of t.stack ≡ context.open_around → drive_text context (length src) src s ≡ Ok t
 run_read context src s t more other read plain item past deep =
     let n = length src in
-    let one : n ≡ suc (n - 1) = omega arith in
-    texted context n (n - 1) src s one more
+    texted context n (n - 1) src s (omega arith) more
     ∙ rw (step_is_run context src src s s.at refl refl other ∙ plain_run context src s s.at n (slice_range src s.at n) refl read plain, item)
     (ended context (n - 1) src t past ∙ text_closed context t deep)
 
@@ -196,8 +192,7 @@ run_opened limit end es depth_left main t after s b u is some h tables limits op
     let x : State = record { at = n; done = join s.done (leaf item); stack = s.stack; openings_left = s.openings_left } in
     let y : State = record { at = n; done = join s.done (leaf item); stack = s.stack; openings_left = 255 } in
     let r = text_rests limit end s b u tt t.start n v true h tables limits openings_left adds in
-    let e : r.0 ≡ x = counted_is limit x r.0 r.1 in
-    let k : HoldsState limit end x u = subst (λ (z : State). HoldsState limit end z u) e r.2 in
+    let k : HoldsState limit end x u = subst (λ (z : State). HoldsState limit end z u) (counted_is limit x r.0 r.1) r.2 in
     let within : with_item limit (inner_state t s 255) n item ≡ Ok y = counted_too (leb (nodes_so_far s.stack (join s.done (leaf item))) limit) x y r.0 fault.NodesLimitReached r.1 in (
       outer_state true after s y,
       main_opened limit es depth_left main t after s y is some (run_read (inner_context limit es (depth_left - 1) s) t.source (inner_state t s 255) y more other read plain within (omega arith) refl),

@@ -19,8 +19,7 @@ use Rattle.rox_builder.specs.BuilderState.{Adds, IsInState, HoldsState}
 use Rattle.rox_values.specs.declared.parse_error.ParseError.{ParseError}
 use Rattle.rox_builder.specs.declared.builder.Builder.{Builder}
 use Rattle.rox_values.proofs.PartLemmas.{refuses_by}
-use Rattle.rox_theory.proofs.Standing.{pairs-item}
-use Rattle.rox_theory.proofs.Standing.{attributes-item}
+use Rattle.rox_theory.proofs.Standing.{pairs-item, attributes-item}
 
 pub rests_of : (limit end : ℕ) (s : State) (c : Cursor) (b : Builder) → IsInState limit end s c b → HoldsState limit end s b
 rests_of limit end s c b h = record { limit_is = h.limit_is; shows = h.shows; namespaces = h.namespaces; attributes = h.attributes; openings_left_is = h.openings_left_is }

@@ -14,7 +14,7 @@ use Rattle.rox_grammar.specs.State.{Open, root, inside, scope_of, nodes_so_far}
 use Rattle.rox_reading.specs.State.{State}
 use Rattle.rox_reading.specs.Machine.{counted}
 use Rattle.rox_reading.proofs.Forests.{is_text, add, join-nil, size-join, merge-piece, add-text, add_clean, merge-item, clean-item}
-use Rattle.rox_rows.specs.Rows.{RowView, row_view, preorder_rows, node, AttributeRow, attribute_rows}
+use Rattle.rox_rows.specs.Rows.{RowView, row_view, preorder_rows, node, AttributeRow, attribute_rows, node_rows}
 use Rattle.rox_builder.specs.OpenRows.{top, open_line, rows_to, so_far}
 use Rattle.rox_builder.specs.PendingText.{text_of, waiting}
 use Rattle.rox_names.specs.TagScopes.{lists_in}
@@ -32,7 +32,6 @@ use Rattle.rox_builder.specs.declared.pending.Pending.TheVariants as pending
 use Rattle.rox_names.specs.declared.open_element.OpenElement.{OpenElement}
 use Rattle.rox_builder.specs.declared.builder.Builder.{Builder}
 use Rattle.rox_builder.proofs.Rows.{length-so_far, nodes_are, so_far-join, so_far-open, so_far-closed, closed_line}
-use Rattle.rox_rows.specs.Rows.{node_rows}
 use Rattle.rox_reading.proofs.Lists.{all_append}
 
 -- ---- the open elements
@@ -109,10 +108,9 @@ row_shows : (t : ElementTables) (end : ℕ) (o : Open) (front : Forest Item) (i 
     → node (attribute_rows t.attributes) (names_in t) (lists_in t) s e k ≡ node_in (scope_in (scope_of o) i) i
     → map (line_in t) (rows ++ row_of t rows os s e k ∷ []) ≡ so_far end o (join front (leaf i))
 row_shows t end o front i rows os s e k h opens is =
-    let n = rows_count t end o front rows h in
     let r = row_of t rows os s e k in
     let row : line_in t r ≡ record { parent = top o; subtree_end = top o + 1 + size front + 1; node = node_in (scope_in (scope_of o) i) i } =
-    rw (parent_is t o os opens, n, is) refl in
+    rw (parent_is t o os opens, (rows_count t end o front rows h), is) refl in
     map-append (line_in t) rows (r ∷ []) ∙ ap (λ xs. xs ++ line_in t r ∷ []) h ∙ ap (λ x. so_far end o front ++ x ∷ []) row
     ∙ ap (λ xs. so_far end o front ++ xs) (sym (leaf_line (top o) (top o + 1 + size front) (scope_of o) i)) ∙ sym (so_far-join end o front (leaf i))
 
@@ -121,9 +119,8 @@ row_shows t end o front i rows os s e k h opens is =
 pub settled_none : (end : ℕ) (o : Open) (done : Forest Item) (b u : Builder) → Represents end o done b → b.pending ≡ pending.None → u.nodes ≡ b.nodes → u.tables ≡ b.tables → u.opened ≡ b.opened
     → u.pending ≡ pending.None → RepresentsFlushed end o done u
 settled_none end o done b u h was nodes tables opens empty =
-    let m : h.front ≡ merge done = sym (merged_none end o done b h was) in
     record {
-      rows = rw (nodes, tables) (rows_none end o done b h was ∙ ap (so_far end o) m);
+      rows = rw (nodes, tables) (rows_none end o done b h was ∙ ap (so_far end o) (sym (merged_none end o done b h was)));
       open_rows = rw (tables, opens) h.open_rows;
       within = rw (nodes, tables) h.within;
       empty = empty;
@@ -149,11 +146,10 @@ settled_joined end o done b u k h was is within nodes tables opens empty =
     let s = b.joined.start in
     let e = b.joined.end in
     let i : Item = Text s e (string_bytes b.joined.text) (is_some b.joined.slice) in
-    let m : join h.front (leaf i) ≡ merge done = sym (merged_joined end o done b h was) in
     let r = row_shows b.tables end o h.front i (node_rows b.nodes) b.opened.items s e k (rows_joined end o done b h was) h.open_rows is in
     let w = all_append (λ (r : NodeData). IsRowWithin b.tables r.kind) (node_rows b.nodes) (row_of b.tables (node_rows b.nodes) b.opened.items s e k ∷ []) h.within (within, tt) in
     record {
-      rows = rw (nodes, tables) (r ∙ ap (so_far end o) m);
+      rows = rw (nodes, tables) (r ∙ ap (so_far end o) (sym (merged_joined end o done b h was)));
       open_rows = rw (tables, opens) h.open_rows;
       within = rw (nodes, tables) w;
       empty = empty;
@@ -207,13 +203,12 @@ pub piece_first : (end : ℕ) (o : Open) (done : Forest Item) (b u : Builder) (s
     → Represents end o (join done (leaf (Text s e v p))) u
 piece_first end o done b u s e v p k h was is within nodes tables opens waits =
     let i : Item = Text s e v p in
-    let m = merged_none end o done b h was in
     let r = row_shows b.tables end o h.front i (node_rows b.nodes) b.opened.items s e k (rows_none end o done b h was) h.open_rows is in
     let w = all_append (λ (r : NodeData). IsRowWithin b.tables r.kind) (node_rows b.nodes) (row_of b.tables (node_rows b.nodes) b.opened.items s e k ∷ []) h.within (within, tt) in
     record {
       front = h.front;
       last = leaf i;
-      merged = merge-piece done s e v p ∙ ap (add s e v p) m ∙ add_clean h.front s e v p h.clean;
+      merged = merge-piece done s e v p ∙ ap (add s e v p) (merged_none end o done b h was) ∙ add_clean h.front s e v p h.clean;
       is_last = rw waits (s, e, v, p, refl);
       clean = h.clean;
       rows = rw (waits, nodes, tables) r;
@@ -226,12 +221,11 @@ pub waiting_first : (end : ℕ) (o : Open) (done : Forest Item) (b u : Builder) 
     → u.nodes ≡ b.nodes → u.tables ≡ b.tables → u.opened ≡ b.opened → u.pending ≡ pending.Joined
     → u.joined.start ≡ s → u.joined.end ≡ e → string_bytes u.joined.text ≡ v → u.joined.slice ≡ slice → IsItsSlice slice v → Represents end o (join done (leaf (Text s e v (is_some slice)))) u
 waiting_first end o done b u s e v slice h was nodes tables opens waits from until joined sliced its =
-    let m = merged_none end o done b h was in
     let p = is_some slice in
     record {
       front = h.front;
       last = leaf (Text s e v p);
-      merged = merge-piece done s e v p ∙ ap (add s e v p) m ∙ add_clean h.front s e v p h.clean;
+      merged = merge-piece done s e v p ∙ ap (add s e v p) (merged_none end o done b h was) ∙ add_clean h.front s e v p h.clean;
       is_last = rw (waits, from, until, joined, sliced) (refl, its);
       clean = h.clean;
       rows = rw (waits, nodes, tables) (rows_none end o done b h was);
@@ -248,11 +242,10 @@ piece_more end o done b u s e v p h was nodes tables opens waits from until join
     let x = b.joined.start in
     let y = b.joined.end in
     let w = string_bytes b.joined.text in
-    let m = merged_joined end o done b h was in
     record {
       front = h.front;
       last = leaf (Text x y (w ++ v) false);
-      merged = merge-piece done s e v p ∙ ap (add s e v p) m ∙ add-text h.front x y w (is_some b.joined.slice) s e v p;
+      merged = merge-piece done s e v p ∙ ap (add s e v p) (merged_joined end o done b h was) ∙ add-text h.front x y w (is_some b.joined.slice) s e v p;
       is_last = rw (waits, from, until, joined, own) (refl, tt);
       clean = h.clean;
       rows = rw (waits, nodes, tables) (rows_joined end o done b h was);
@@ -301,12 +294,11 @@ slice_more end o done b u last s e v p h was nodes tables opens waits from until
     let text = last_text b.tables end o h.front (node_rows u.nodes) last x y w q all in
     let kept : AllByRecursion (λ (r : NodeData). IsRowWithin b.tables r.kind) ((node_rows u.nodes) ++ last ∷ []) = subst (AllByRecursion (λ (r : NodeData). IsRowWithin b.tables r.kind)) nodes h.within in
     let all_within = all_front (λ (r : NodeData). IsRowWithin b.tables r.kind) (node_rows u.nodes) last kept in
-    let bytes : string_bytes u.joined.text ≡ w ++ v = joined ∙ ap (λ (l : List ℕ). l ++ v) text.3 in
     record {
       front = h.front;
       last = leaf (Text x y (w ++ v) false);
       merged = merge-piece done s e v p ∙ ap (add s e v p) m ∙ add-text h.front x y w q s e v p;
-      is_last = rw (waits, from, until, text.1, text.2, bytes, own) (refl, tt);
+      is_last = rw (waits, from, until, text.1, text.2, (joined ∙ ap (λ (l : List ℕ). l ++ v) text.3), own) (refl, tt);
       clean = h.clean;
       rows = rw (waits, tables) text.0;
       open_rows = rw (tables, opens) h.open_rows;
@@ -316,8 +308,7 @@ slice_more end o done b u last s e v p h was nodes tables opens waits from until
 pub first_count : (end : ℕ) (o : Open) (done : Forest Item) (b : Builder) (s e : ℕ) (v : List ℕ) (p : Bool) → Represents end o done b → b.pending ≡ pending.None
     → nodes_so_far o (join done (leaf (Text s e v p))) ≡ length (node_rows b.nodes) + 1
 first_count end o done b s e v p h was =
-    let m = merged_none end o done b h was in
-    let k = ap size (merge-piece done s e v p ∙ ap (add s e v p) m ∙ add_clean h.front s e v p h.clean) ∙ size-join h.front (leaf (Text s e v p)) in
+    let k = ap size (merge-piece done s e v p ∙ ap (add s e v p) (merged_none end o done b h was) ∙ add_clean h.front s e v p h.clean) ∙ size-join h.front (leaf (Text s e v p)) in
     omega (arith, k, nodes_are o (join done (leaf (Text s e v p))), rows_count b.tables end o h.front (node_rows b.nodes) (rows_none end o done b h was))
 
 pub more_count : (end : ℕ) (o : Open) (done : Forest Item) (b : Builder) (s e : ℕ) (v : List ℕ) (p : Bool) → Represents end o done b

@@ -3,10 +3,9 @@ use Rattle.std.proofs.lemmas.Bool.{and_parts, lt-leb, ltb-true}
 use Rattle.rox_grammar.specs.Search.{stands}
 use Rattle.rox_grammar.specs.FixedTexts.{word_text}
 use Rattle.rox_grammar.specs.declared.fault.Word.TheVariants as word
-use Rattle.std.specs.List.{starts_with}
-use Rattle.rox_rows.specs.Rows.{attribute_rows}
+use Rattle.std.specs.List.{starts_with, AllByRecursion}
+use Rattle.rox_rows.specs.Rows.{attribute_rows, node_rows}
 use Rattle.rox_reading.specs.AtIndex.{scope_at}
-use Rattle.std.specs.List.{AllByRecursion}
 use Rattle.rox_rows.specs.declared.row.NodeData.{NodeData}
 use Rattle.rox_names.specs.TagScopes.{lists_in}
 use Rattle.std.specs.Prelude.{nat_lt, ◌^◌, ◌-◌}
@@ -39,7 +38,6 @@ use Rattle.rox_grammar.specs.declared.failure.Failure.{Failure}
 use Rattle.rox_builder.specs.Putting.{KeepsRows}
 use Rattle.rox_builder.specs.BuilderState.{OpenRow, opened, tag_row, opened_in, open_lines, line_in, names_in, IsRowWithin, Represents, Adds, IsConsistent, IsInState, KeepsOpen, KeepsState, ScansTo}
 use Rattle.rox_names.specs.OpenElements.{name_length, open_name}
-use Rattle.rox_rows.specs.Rows.{node_rows}
 use Rattle.rox_builder.specs.declared.builder.Builder.{Builder}
 use Rattle.rox_theory.proofs.Standing.{attributes-item, pairs-item}
 
@@ -81,8 +79,7 @@ pub cdata_is : (limit : ℕ) (src : List ℕ) (s : State) (i j : ℕ) (raw : Lis
     → cdata_step limit src s ≡ with_item limit s j (Text s.at j t.value t.borrowed)
 unfolding cdata_step
 cdata_is limit src s i j raw t e h is =
-    let k : cdata_at src s.at ≡ Ok (raw, j) = subst (λ (n : ℕ). cdata_at src n ≡ Ok (raw, j)) e h in
-    rw k (ap (λ (t : ReadText). with_item limit s j (Text s.at j t.value t.borrowed)) is)
+    rw (subst (λ (n : ℕ). cdata_at src n ≡ Ok (raw, j)) e h) (ap (λ (t : ReadText). with_item limit s j (Text s.at j t.value t.borrowed)) is)
 
 pub cdata_fails : (limit : ℕ) (src : List ℕ) (s : State) (i : ℕ) (f : Fault) → i ≡ s.at → cdata_at src i ≡ Err f → cdata_step limit src s ≡ Err f
 unfolding cdata_step
@@ -131,16 +128,14 @@ pub end_is : (context : Context) (src : List ℕ) (s : State) (i j : ℕ) (t : E
     → end_step context src s ≡ closed_by i t.name t.name_end j s.done s.stack s.openings_left
 unfolding end_step
 end_is context src s i j t e h within =
-    let k : end_tag_at src s.at ≡ Ok (t, j) = subst (λ (n : ℕ). end_tag_at src n ≡ Ok (t, j)) e h in
-    rw (k, within) (ap (λ (n : ℕ). closed_by n t.name t.name_end j s.done s.stack s.openings_left) (sym e))
+    rw ((subst (λ (n : ℕ). end_tag_at src n ≡ Ok (t, j)) e h), within) (ap (λ (n : ℕ). closed_by n t.name t.name_end j s.done s.stack s.openings_left) (sym e))
 
 -- it would close one that was open before
 pub end_below : (context : Context) (src : List ℕ) (s : State) (i j : ℕ) (t : EndTag) → i ≡ s.at → end_tag_at src i ≡ Ok (t, j) → leb (depth_of s.stack) context.open_around ≡ true
     → end_step context src s ≡ Err (fault.UnexpectedEntityCloseTag i)
 unfolding end_step
 end_below context src s i j t e h below =
-    let k : end_tag_at src s.at ≡ Ok (t, j) = subst (λ (n : ℕ). end_tag_at src n ≡ Ok (t, j)) e h in
-    rw (k, below) (ap (λ (n : ℕ). Err (fault.UnexpectedEntityCloseTag n)) (sym e))
+    rw ((subst (λ (n : ℕ). end_tag_at src n ≡ Ok (t, j)) e h), below) (ap (λ (n : ℕ). Err (fault.UnexpectedEntityCloseTag n)) (sym e))
 
 -- how many elements are open
 lines_deep : (o : Open) → length (open_lines o) ≡ depth_of o
@@ -176,8 +171,7 @@ pub closed_other : (t : ElementTables) (o : Open) (outer : List OpenElement) (x 
 unfolding closed_by
 closed_other t root outer x i n j name done openings_left span h other where_is = absurd (outer_not_nil t outer x h)
 closed_other t (inside start tag before up) outer x i n j name done openings_left span h other where_is =
-    let v = top_view t start tag before up outer x h in
-    let a : open_name x ≡ tag.name = ap (λ (l : OpenRow). l.name) v in
+    let a : open_name x ≡ tag.name = ap (λ (l : OpenRow). l.name) (top_view t start tag before up outer x h) in
     let d : same_qname tag.name name ≡ false = subst (λ (m : Name). same_qname m name ≡ false) a other in
     rw d (ap (λ (sp : Span). Err (fault.UnexpectedCloseTag sp (name_span name (i + 2) n) i)) (sym (where_is start tag before up refl)))
 
@@ -202,8 +196,7 @@ closed_stepped limit end s c d b u outer x i n name h os same tables limits open
     by_stack root e = absurd (outer_not_nil b.tables outer x (sym (ap (opened_in b.tables) os) ∙ h.shows.open_rows ∙ ap open_lines (sym e)))
     by_stack (inside start tag before up) e =
         let v = top_view b.tables start tag before up outer x (sym (ap (opened_in b.tables) os) ∙ h.shows.open_rows ∙ ap open_lines (sym e)) in
-        let a : open_name x ≡ tag.name = ap (λ (l : OpenRow). l.name) v in
-        let k : same_qname tag.name name ≡ true = subst (λ (m : Name). same_qname m name ≡ true) a same in
+        let k : same_qname tag.name name ≡ true = subst (λ (m : Name). same_qname m name ≡ true) (ap (λ (l : OpenRow). l.name) v) same in
         let sh = close end start tag before up s.done (subst (λ (o : Open). Represents end o s.done b) (sym e) h.shows) in
         let done = join before (Cons (Element start d.pos tag) (merge s.done) Nil) in
         let p : pairs_so_far up done ≡ pairs_so_far s.stack s.done =
@@ -256,9 +249,7 @@ step_is_markup context src xs s i b same e here more next other =
     let x : slice_index src s.at ≡ 60 = sym (ap (λ (ys : List ℕ). slice_index ys i) same ∙ ap (slice_index src) e) ∙ here in
     let y : slice_index src (s.at + 1) ≡ b = sym (ap (λ (ys : List ℕ). slice_index ys (i + 1)) same ∙ ap (λ (n : ℕ). slice_index src (n + 1)) e) ∙ next in
     let z : s.at + 1 < length src = subst (λ (n : ℕ). n + 1 < length src) e (subst (λ (ys : List ℕ). i + 1 < length ys) same more) in
-    let k : leb (length src) (s.at + 1) ≡ false = lt-leb (length src) (s.at + 1) z in
-    let l : eqb b 33 ≡ false = ne_eqb b 33 other in
-    rw (x, k, y, l) refl
+    rw (x, (lt-leb (length src) (s.at + 1) z), y, (ne_eqb b 33 other)) refl
 
 -- `<!--`
 pub step_is_comment : (context : Context) (src : List ℕ) (s : State) (i : ℕ) → i ≡ s.at → stands (word_text word.CommentStart) src i ≡ true → step context src s ≡ lifted (comment_step context.limit src s)
@@ -266,12 +257,9 @@ unfolding step
 step_is_comment context src s i e comment =
     let mark = word_text word.CommentStart in
     let l : stands mark src s.at ≡ true = subst (λ (n : ℕ). stands mark src n ≡ true) e comment in
-    let none : s.at ≡ s.at + 0 = omega arith in
-    let x : slice_index src s.at ≡ 60 = ap (slice_index src) none ∙ stands_reads mark src s.at 0 l (omega arith) in
-    let y : slice_index src (s.at + 1) ≡ 33 = stands_reads mark src s.at 1 l (omega arith) in
-    let z : s.at + 1 < length src = omega (arith, stands_fits mark src s.at (omega arith) l) in
-    let k : leb (length src) (s.at + 1) ≡ false = lt-leb (length src) (s.at + 1) z in
-    rw (x, k, y, l) refl
+    let x : slice_index src s.at ≡ 60 = ap (slice_index src) (omega arith) ∙ stands_reads mark src s.at 0 l (omega arith) in
+    let k : leb (length src) (s.at + 1) ≡ false = lt-leb (length src) (s.at + 1) (omega (arith, stands_fits mark src s.at (omega arith) l)) in
+    rw (x, k, (stands_reads mark src s.at 1 l (omega arith)), l) refl
 
 -- two bytes that stand
 pub two_stand : (src : List ℕ) (i a b : ℕ) → i + 1 < length src → slice_index src i ≡ a → slice_index src (i + 1) ≡ b → stands (a ∷ b ∷ []) src i ≡ true
@@ -290,7 +278,6 @@ state_kept limit end s c d b u h same k =
     let t = b.tables in
     let v = u.tables in
     let namespaces : names_in v ≡ names_in t = ap names_in k.others in
-    let lists : lists_in v ≡ lists_in t = ap lists_in k.others in
     let rows : map (line_in v) (node_rows b.nodes) ≡ map (line_in t) (node_rows b.nodes) = cc in
     let within : AllByRecursion (λ (r : NodeData). IsRowWithin v r.kind) (node_rows b.nodes) =
     rw (k.attributes, ap (λ (t : ElementTables). length t.namespaces.items.items) k.others, ap (λ (t : ElementTables). length t.scopes.items) k.others) h.shows.within in
@@ -304,7 +291,7 @@ state_kept limit end s c d b u h same k =
         is_last = rw (k.pending, k.joined) h.shows.is_last;
         clean = h.shows.clean;
         rows = rw (k.pending, k.nodes) (rows ∙ h.shows.rows);
-        open_rows = rw (k.opened, lists) h.shows.open_rows;
+        open_rows = rw (k.opened, (ap lists_in k.others)) h.shows.open_rows;
         within = rw k.nodes within;
       };
       namespaces = namespaces ∙ h.namespaces;

@@ -11,7 +11,6 @@ use Rattle.rox_reading.specs.Machine.{Context, left_behind, values_of, opener, d
 use Rattle.rox_values.specs.DeclaredEntities.{opened_at}
 use Rattle.rox_values.specs.Refusals.{IsRefusal, seen_from}
 use Rattle.rox_values.specs.declared.parse_error.ParseError.{ParseError}
-use Rattle.rox_values.specs.declared.parse_error.ParseError.TheVariants as refused
 
 -- it may not be opened
 pub opens_err : (limit : ℕ) (es : List Entity) (depth_left : ℕ) (main : Bool) (t : Replacement) (after : ℕ) (s : State) (f : Fault) → opened_at depth_left main after s.openings_left ≡ Err f → opener limit es depth_left main t after s ≡ Err (refusal.here f)

@@ -21,11 +21,10 @@ use Rattle.rox_scopes.specs.ScopeRows.{AreScopes}
 use Rattle.rox_scopes.specs.NamespaceViews.{namespace_view}
 use Rattle.rox_reading.specs.Values.{Next, part_text}
 use Rattle.rox_values.specs.Refusals.{IsFailure, IsRefusal}
-use Rattle.rox_values.specs.Values.{next_view}
+use Rattle.rox_values.specs.Values.{next_view, IsItsSlice}
 use Rattle.rox_values.specs.declared.parse_error.ParseError.{ParseError}
 use Rattle.rox_builder.specs.OpenRows.{top, so_far}
 use Rattle.rox_builder.specs.PendingText.{waiting}
-use Rattle.rox_values.specs.Values.{IsItsSlice}
 use Rattle.rox_names.specs.TagScopes.{HasBindings, lists_in}
 use Rattle.rox_rows.specs.declared.row.NodeKind.{NodeKind}
 use Rattle.rox_rows.specs.declared.row.NodeData.{NodeData}

@@ -87,8 +87,7 @@ fair_run : (src : List ℕ) (i : ℕ) → IsUtf8 src → IsCharBoundary src i �
 unfolding run_end
 fair_run src i utf8 cut h =
     let back = encodes-chars (drop i src) (IsUtf8-drop src i utf8 cut) in
-    let run = fair_passing (chars (drop i src)) (rw back h) in
-    omega (arith, run, ap length back, length-drop i src, cut.0)
+    omega (arith, (fair_passing (chars (drop i src)) (rw back h)), ap length back, length-drop i src, cut.0)
 
 fair_here : (p : ℕ → Bool) (b m n : ℕ) → (p b ≡ true → is_char_byte b ≡ true) → (p b || leads_char b m) ≡ true → (n ≡ m) ⊎ (n ≡ 0) → (is_char_byte b || leads_char b n) ≡ true
 fair_here p b m n are h next = grind arith
@@ -97,13 +96,12 @@ all_fair : (p : ℕ → Bool) (src : List ℕ) (i e n : ℕ) → i + n ≡ e →
 all_fair p src i e zero same within all are = let long = length-take e src in rw (drop_all i (take e src) (omega (arith, long))) refl
 all_fair p src i e (suc n) same within all are =
     let long = length-take e src in
-    let read : get_or (take e src) i 0 ≡ get_or src i 0 = get_or-take e src i 0 (omega (arith, long)) in
     let zero : i + 1 + 0 ≡ i + 1 = omega arith in
     let behind : get_or (drop (i + 1) (take e src)) 0 0 ≡ get_or (take e src) (i + 1) 0 = get_or-drop (i + 1) (take e src) 0 0 ∙ ap (λ (k : ℕ). get_or (take e src) k 0) zero in
     let next : (get_or (drop (i + 1) (take e src)) 0 0 ≡ get_or src (i + 1) 0) ⊎ (get_or (drop (i + 1) (take e src)) 0 0 ≡ 0) = grind (arith, get_or-take, get_or_past) in
     let here = fair_here p (get_or src i 0) (get_or src (i + 1) 0) _ (are (get_or src i 0)) (all i (omega arith) (omega arith)) next in
     let rest = all_fair p src (i + 1) e n (omega arith) within (λ k low high. all k (omega arith) high) are in
-    rw (drop_more (take e src) i 0 (omega (arith, long)), read) (and_from _ _ here rest)
+    rw (drop_more (take e src) i 0 (omega (arith, long)), (get_or-take e src i 0 (omega (arith, long)))) (and_from _ _ here rest)
 
 -- a place before the end of a front is one between characters of the front
 pub cut_before : (src : List ℕ) (i e : ℕ) → i ≤ e → e ≤ length src → IsCharBoundary src i → IsCharBoundary (take e src) i
@@ -112,9 +110,8 @@ cut_before src i e le within cut = grind (arith, length-take, get_or-take)
 -- eased bytes are of Chars
 pub eased_chars : (p : ℕ → Bool) (src : List ℕ) (i e : ℕ) → IsUtf8 src → IsCharBoundary src i → i ≤ e → IsCharBoundary src e → ((k : ℕ) → i ≤ k → k < e → passes_eased p src k ≡ true) → ((b : ℕ) → p b ≡ true → is_char_byte b ≡ true) → run_end is_char (take e src) i ≡ e
 eased_chars p src i e utf8 start le cut all are =
-    let long = length-take e src in
     let whole = fair_run (take e src) i (IsUtf8-take src e utf8 cut) (cut_before src i e le cut.0 start) (all_fair p src i e (e - i) (omega arith) cut.0 all are) in
-    omega (arith, whole, long)
+    omega (arith, whole, (length-take e src))
 
 -- such a byte passes, or it is a 239
 pub eased_byte : (p : ℕ → Bool) (src : List ℕ) (k : ℕ) → passes_eased p src k ≡ true → (p (get_or src k 0) ≡ true) ⊎ (get_or src k 0 ≡ 239)

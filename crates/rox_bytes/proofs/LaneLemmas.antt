@@ -93,8 +93,7 @@ first_seen p src i others seen some =
     let within = seen.within in
     let mask = seen.mask in
     let left : 0 < mask_l (map q (chunk i 16 src)) = omega (arith, mask, some) in
-    let counted = counted_some q src i 16 within (omega arith) left in
-    let count = ap (count_trailing_zeros 64) mask ∙ counted in
+    let count = ap (count_trailing_zeros 64) mask ∙ (counted_some q src i 16 within (omega arith) left) in
     let short : count_trailing_zeros 64 others < 16 = omega (arith, count, some_left q (chunk i 16 src) left, length-chunk i 16 src within) in
     record {
       onward = omega arith;
@@ -158,10 +157,8 @@ looked_up t g f v js fits e gives =
     ext_get_or 0 _ _ (length-swz_l w8 16 t 0 js ∙ long ∙ sym (length-map v f ∙ fits.0)) (λ i h.
     let lt : i < 16 = omega (arith, length-swz_l w8 16 t 0 js) in
     let within : i < length v = omega (arith, fits.0) in
-    let is : get_or js i 0 ≡ g (get_or v i 0) = ap (λ l. get_or l i 0) e ∙ get_or-map g v i 0 0 within in
-    let place : 16 * ((0 + i) / 16) + get_or js i 0 ≡ get_or js i 0 = omega arith in
     get_or-swz_l w8 16 t 0 js i (omega arith)
-    ∙ ap (λ k. cond (leb 128 (get_or js i 0)) 0 (get_or t k 0)) place ∙ ap (λ k. cond (leb 128 k) 0 (get_or t k 0)) is
+    ∙ ap (λ k. cond (leb 128 (get_or js i 0)) 0 (get_or t k 0)) (omega arith) ∙ ap (λ k. cond (leb 128 k) 0 (get_or t k 0)) (ap (λ l. get_or l i 0) e ∙ get_or-map g v i 0 0 within)
     ∙ gives (get_or v i 0) (lane_fits v i fits.1) ∙ sym (get_or-map f v i 0 0 within))
 
 -- the places of ASCII bytes are their low halves
@@ -188,9 +185,7 @@ mask_down : (ms : List Bool) (k : ℕ) → mask_l ms / 2 ^ k ≡ mask_l (drop k 
 mask_down ms zero = omega arith
 mask_down [] (suc k) = omega arith
 mask_down (b ∷ bs) (suc k) =
-    let half : mask_l (b ∷ bs) / 2 ^ 1 ≡ mask_l bs = halved b (mask_l bs) in
-    let more : suc k ≡ 1 + k = omega arith in
-    ap (λ n. mask_l (b ∷ bs) / 2 ^ n) more ∙ sym (shr-shr (mask_l (b ∷ bs)) 1 k) ∙ ap (λ m. m / 2 ^ k) half ∙ mask_down bs k
+    ap (λ n. mask_l (b ∷ bs) / 2 ^ n) (omega arith) ∙ sym (shr-shr (mask_l (b ∷ bs)) 1 k) ∙ ap (λ m. m / 2 ^ k) (halved b (mask_l bs)) ∙ mask_down bs k
 
 -- so that of a block tells what stands from a place inside on
 pub mask_from : (q : ℕ → Bool) (src : List ℕ) (i n k : ℕ) → k ≤ n → mask_l (map q (chunk i n src)) / 2 ^ k ≡ mask_l (map q (chunk (i + k) (n - k) src))

@@ -27,8 +27,7 @@ pub differs_early : (mark rest : List ℕ) → 1 < length mark → (1 < length r
 differs_early mark rest some apart =
     fails (starts_with ◌==◌ rest mark) (λ h.
     let split = (starts_is Decides-eqb rest mark true (sym h)).0 refl in
-    let fits = front_fits rest mark _ split in
-    apart (omega (arith, fits)) (at_reads 0 rest mark 0 _ split 1 some))
+    apart (omega (arith, (front_fits rest mark _ split))) (at_reads 0 rest mark 0 _ split 1 some))
 
 -- after a fixed text whose last byte is ASCII
 pub stands_cut : (mark src : List ℕ) (i n : ℕ) → length mark ≡ n + 1 → IsUtf8 src → get_or mark n 0 < 128 → stands mark src i ≡ true → IsCharBoundary src (i + length mark)
@@ -42,9 +41,8 @@ pub before_mark_is : (mark hay : List ℕ) (k : ℕ) → k ≤ length hay → ((
 before_mark_is mark [] k within none here = omega arith
 before_mark_is mark (b ∷ bs) zero within none here = rw (here (omega arith))
 before_mark_is mark (b ∷ bs) (suc k) within none here =
-    let first : starts_with ◌==◌ (b ∷ bs) mark ≡ false = none 0 (omega arith) in
     let rest = before_mark_is mark bs k (omega arith) (λ j below. none (suc j) (omega arith)) (λ more. here (omega arith)) in
-    rw first (omega arith)
+    rw (none 0 (omega arith)) (omega arith)
 
 -- no mark stands where its first byte doesn't
 pub not_from_first : (mark hay : List ℕ) (j : ℕ) → 0 < length mark → (get_or hay j 0 ≡ get_or mark 0 0 → ⊥) → starts_with ◌==◌ (drop j hay) mark ≡ false

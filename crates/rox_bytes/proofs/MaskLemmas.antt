@@ -72,12 +72,10 @@ first_few p src i others j seen some stops = elim (cases_lt j (i + 16)) [
   | inr more ↦ (
       let t = trailing_zeros w64 others in
       let small = few_bits p src i others seen in
-      let first = bit_at-trailing_zeros w64 others some (omega (arith, small)) in
-      let one = first.1 in
+      let one = (bit_at-trailing_zeros w64 others some (omega (arith, small))).1 in
       let inside : t < 16 = elim (cases_lt t 16) [ inl below ↦ below | inr above ↦ absurd (omega (arith, one, bit_at_above others 16 t small above)) ] in
-      let fails = by_one _ (sym (tells p src i others t seen inside) ∙ one) in
       let passes = stops.ends.passes (i + t) (omega arith) (omega (arith, inside, more)) in
-      absurd (cc (passes, fails)))
+      absurd (cc (passes, (by_one _ (sym (tells p src i others t seen inside) ∙ one)))))
 ]
 
 -- ---- what is behind the first that is not in it
@@ -100,8 +98,7 @@ module _ (p : ℕ → Bool) (src : List ℕ) (i others before : ℕ) (seen : IsS
   pub passes : (e : ℕ) → e ≤ 16 → ((k : ℕ) → k < e → bit_at (bit_and others (others - 1)) k ≡ 0) → AllPass p src (i + before) (i + e)
   passes e short none k low high =
       let j = k - i in
-      let place : i + j ≡ k = omega arith in
-      subst (λ m. p (get_or src m 0) ≡ true) place
+      subst (λ m. p (get_or src m 0) ≡ true) (omega arith)
       (by_none _ (sym (tells p src i others j seen (omega arith)) ∙ sym (kept others (before - 1) j lowest (omega (arith, some))) ∙ none j (omega arith)))
 
   pub some_left : 0 < bit_and others (others - 1)

@@ -44,5 +44,4 @@ pub plain_run : (src : List ℕ) (i : ℕ) → IsUtf8 src → IsCharBoundary src
 unfolding run_end
 plain_run src i utf8 cut h =
     let back = encodes-chars (drop i src) (IsUtf8-drop src i utf8 cut) in
-    let run = plain_passing (chars (drop i src)) (rw back h) in
-    omega (arith, run, ap length back, length-drop i src, cut.0)
+    omega (arith, (plain_passing (chars (drop i src)) (rw back h)), ap length back, length-drop i src, cut.0)

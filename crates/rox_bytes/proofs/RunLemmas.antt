@@ -43,9 +43,8 @@ none_passes (c ∷ cs) wide = grind (arith, encode_ascii)
 wide_stops : (src : List ℕ) (i : ℕ) → IsUtf8 src → IsCharBoundary src i → 128 ≤ get_or src i 0 → run_end is_space src i ≡ i
 unfolding run_end
 wide_stops src i utf8 cut wide =
-    let back = encodes-chars (drop i src) (IsUtf8-drop src i utf8 cut) in
     let read : get_or (drop i src) 0 0 ≡ get_or src i 0 = rw (get_or-drop i src 0 0, add-zero) refl in
-    omega (arith, none_passes (chars (drop i src)) (rw (back, read) wide))
+    omega (arith, none_passes (chars (drop i src)) (rw ((encodes-chars (drop i src) (IsUtf8-drop src i utf8 cut)), read) wide))
 
 pub space_on : (src : List ℕ) (i : ℕ) → IsUtf8 src → i < length src → is_space (get_or src i 0) ≡ true → run_end is_space src (i + 1) ≡ run_end is_space src i
 space_on src i utf8 within passes = run_on_ascii is_space src i utf8 within (space_ascii _ passes) passes

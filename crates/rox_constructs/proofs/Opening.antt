@@ -39,8 +39,7 @@ use Rattle.rox_scopes.proofs.Listing.{with_new-front, with_new-append}
 use Rattle.rox_reading.proofs.Stretches.{slice-rest}
 use Rattle.rox_builder.proofs.Growing.{grown_counts, grown_elements, grown_empty}
 use Rattle.rox_builder.proofs.Stepping.{adds_stepped}
-use Rattle.rox_theory.proofs.Standing.{pairs-item}
-use Rattle.rox_theory.proofs.Standing.{attributes-item}
+use Rattle.rox_theory.proofs.Standing.{pairs-item, attributes-item}
 
 pub grown_by : (old new : ElementTables) (t : StartTag) (above : List NamespaceDecl) (tag : Tag) → Tagged old new t above tag → Grown old new
 grown_by old new t above tag h =

@@ -93,12 +93,11 @@ leaf_reads b m u above src i t g empty p = record {
       let shows = grown_shows end s.stack s.done b m h.shows g.fine.sound g.fine.elements (grown_by old new t.tag (scope_of s.stack) x.tag tg) g.same.nodes g.same.opened g.same.pending g.same.joined in
       let node : IsNode new (scope_of s.stack) i e (kind.Element t.tag.element) (Element s.at e x.tag) =
       subst (λ (n : ℕ). IsNode new (scope_of s.stack) i e (kind.Element t.tag.element) (Element n e x.tag)) at (is_node old new t.tag (scope_of s.stack) x.tag i e tg) in
-      let adds = p.adds.value end e s (Element s.at e x.tag) shows node in
       rw (tag_is context src s i cut _ _ _ x.tag t.tag.empty s.openings_left e at refl sc h.attributes h.namespaces (x.read context.values cut s.openings_left)
       ∙ ap (λ (y : Bool). lifted (opened_by context.limit s x.tag y s.openings_left e)) empty)
       (subst (λ (n : ℕ). ScansTo context.limit end (Ok tt) behind u (lifted (opened_by context.limit s x.tag true s.openings_left n))) stop
       (empty_stepped context.limit end s.openings_left s behind old new m.nodes_limit u (Ok tt) t.tag (scope_of s.stack) x.tag tg h.namespaces h.attributes (g.same.limit ∙ h.limit_is) (p.adds.kept.openings_left ∙ g.same.openings_left ∙ h.openings_left_is) p.adds.kept.tables p.adds.kept.limit
-      (subst (λ (n : ℕ). Adds end (Ok tt) u (opened_by m.nodes_limit s x.tag true s.openings_left n)) (sym stop) adds)));
+      (subst (λ (n : ℕ). Adds end (Ok tt) u (opened_by m.nodes_limit s x.tag true s.openings_left n)) (sym stop) (p.adds.value end e s (Element s.at e x.tag) shows node))));
   other = λ no. absurd (omega (arith, no, g.short, g.read.cut.0));
   cut = λ _. g.read.cut;
   ready = λ _ most h. p.ready most (ready_too most b m g.same h);

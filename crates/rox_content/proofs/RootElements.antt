@@ -10,7 +10,6 @@ use Rattle.rox_rows.specs.Rows.{AttributeRow, NamespaceWithin, attribute_rows}
 use Rattle.rox_reading.specs.AtIndex.{scope_at}
 use Rattle.rox_names.specs.declared.tables.ElementTables.{ElementTables}
 use Rattle.rox_builder.specs.BuilderState.{Grown, IsConsistent, IsInState, last_row, open_lines, opened_in}
-use Rattle.rox_starts.specs.TagReadiness.{MayReadBelow}
 use Rattle.rox_content.specs.RootTag.{HoldAlike}
 use Rattle.rox_builder.specs.declared.builder.Builder.{Builder}
 use Rattle.rox_names.specs.declared.open_element.OpenElement.{OpenElement}
@@ -59,12 +58,10 @@ AreWithin n rows = AllByRecursion (λ a. NamespaceWithin n a.0.namespace) rows
 pub alike_fine : (old now : ElementTables) (os : List OpenElement) → length os ≡ 0 → HoldAlike old now → IsConsistent old os
     → IsConsistent now os
 alike_fine old now os none held fine =
-    let before : MayReadBelow old 0 = grind arith in
-    let below = held.below 0 before in
-    let names : length now.namespaces.items.items ≡ length old.namespaces.items.items = grind (arith, length-map) in
+    let below = held.below 0 (grind arith) in
     subst (IsConsistent now) (sym (none_open os none)) (record {
       sound = record {
-        attributes = subst (λ (n : ℕ). AreWithin n (attribute_rows now.attributes)) (sym names)
+        attributes = subst (λ (n : ℕ). AreWithin n (attribute_rows now.attributes)) (sym (grind (arith, length-map)))
             (subst (AreWithin (length old.namespaces.items.items)) (sym held.rows) fine.sound.attributes);
         listed = below.places;
         scopes = below.scopes;

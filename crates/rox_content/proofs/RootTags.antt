@@ -77,11 +77,10 @@ root_tagged blank old new src i n end t from namespace none same x is other star
     let lists : scope_in_tables new 1 ≡ listed [] x.own = scope_declares new x.own d.scope d.declares ∙ sym (listed_nothing x.own) in
     let count : length (attribute_rows blank.attributes) ≡ length (attribute_rows old.attributes) = ap length same in
     let counted = plain_count of_root old new src n end t.empty x in
-    let fits : length (attribute_rows blank.attributes) + length x.written ≤ most_attributes = omega arith in
     let passed : names_tested (listed [] x.own) [] x.written ≡ Ok tt = subst (λ (ds : List NamespaceDecl). names_tested ds [] x.written ≡ Ok tt) lists x.tested in
     let fine : tag_tested (listed [] x.own) (length (attribute_rows blank.attributes)) i name x.written ≡ Ok tt =
     tested_passes (listed [] x.own) (length (attribute_rows blank.attributes)) i name x.written
-    (tested_known (listed [] x.own) (length (attribute_rows blank.attributes)) (i + 1) name x.written fits passed (subst (λ ds. may_name ds name ≡ true) lists known)) in
+    (tested_known (listed [] x.own) (length (attribute_rows blank.attributes)) (i + 1) name x.written (omega arith) passed (subst (λ ds. may_name ds name ≡ true) lists known)) in
     let read : (context : Values) (cut : Fault) (openings_left : ℕ) → attributes_at (length src) context cut [] src n openings_left (holding [] [])
     ≡ Ok (record { held = holding x.own x.written; empty = t.empty; openings_left = openings_left }, end) = grind arith in
     record {

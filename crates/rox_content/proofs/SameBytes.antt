@@ -1,6 +1,5 @@
 -- Two stretches of bytes that begin alike.
 use Rattle.std.proofs.Common.{◌≡◌, ℕ, ◌<◌, ◌^◌, ◌%◌, Bool, false, not, eqb, cond, List, map, length, get_or, sym, ap, subst, ◌∙◌, arith, w8}
-use Rattle.std.specs.List.{prefix_len}
 use Rattle.std.specs.Simd.Lanes.{mask_l, top, zip2}
 use Rattle.std.proofs.lemmas.Bool.{eqb-true, not-false, not-true}
 use Rattle.std.proofs.lemmas.List.{map-id}
@@ -19,8 +18,7 @@ differs a b = cond (not (eqb a b)) 255 0
 before_lowest : (ms : List Bool) (k : ℕ) → length ms ≡ 16 → k < 16 → k < count_trailing_zeros 64 (mask_l ms) → get_or ms k false ≡ false
 before_lowest ms k long few below =
     let e = map-id ms in
-    let passes : k < prefix_len (λ (b : Bool). not b) ms = grind (arith, leading_from_mask_l, trailing_mask_l) in
-    not-true _ (prefix_len_passes (λ (b : Bool). not b) ms k false passes)
+    not-true _ (prefix_len_passes (λ (b : Bool). not b) ms k false (grind (arith, leading_from_mask_l, trailing_mask_l)))
 
 -- bytes before the first of sixteen that differs
 pub agree_before : (us vs : List ℕ) (m k : ℕ) → length us ≡ 16 → length vs ≡ 16 → m ≡ mask_l (map (top 7) (zip2 differs us vs)) % 2 ^ 64 → k < 16 → k < count_trailing_zeros 64 m → get_or us k 0 ≡ get_or vs k 0

@@ -1,5 +1,5 @@
 -- Where a character and a line begin.
-use Rattle.std.proofs.Common.{◌≡◌, ℕ, zero, suc, ◌+◌, ◌-◌, ◌<◌, ◌≤◌, ◌==◌, true, false, not, cond, List, length, take, drop, get_or, inl, inr, refl, sym, ap, ◌∙◌, arith, add-zero, add-one, add-suc}
+use Rattle.std.proofs.Common.{◌≡◌, ℕ, zero, suc, ◌+◌, ◌-◌, ◌<◌, ◌≤◌, ◌==◌, true, not, cond, List, length, take, drop, get_or, inl, inr, refl, sym, ap, ◌∙◌, arith, add-zero, add-one, add-suc}
 use Rattle.std.proofs.lemmas.Bool.{cases_Bool, false_from_ne_true}
 use Rattle.std.proofs.lemmas.List.{take_all}
 use Rattle.std.proofs.lemmas.List.Sums.{suffix_len-take_yes, suffix_len-take_no}
@@ -16,13 +16,11 @@ line_start_is src (suc n) within =
     let at : suc n - 1 ≡ n = omega arith in
     elim (cases_Bool (get_or src n 0 == 10)) as (λ q. suc n - suffix_len (λ b. not (b == 10)) (take (suc n) src) ≡ line_start src (suc n)) [
       | inl here ↦ (
-          let feed : not (get_or src (suc n - 1) 0 == 10) ≡ false = rw (at, here) refl in
-          let none = suffix_len-take_no (λ b. not (b == 10)) src (suc n) 0 (omega arith) within feed in
+          let none = suffix_len-take_no (λ b. not (b == 10)) src (suc n) 0 (omega arith) within (rw (at, here) refl) in
           rw (none, here) (omega arith))
       | inr other ↦ (
-          let no_feed : not (get_or src (suc n - 1) 0 == 10) ≡ true = rw (at, other) refl in
           let more : suffix_len (λ b. not (b == 10)) (take (suc n) src) ≡ 1 + suffix_len (λ b. not (b == 10)) (take n src) =
-          suffix_len-take_yes (λ b. not (b == 10)) src (suc n) 0 (omega arith) within no_feed ∙ ap (λ (k : ℕ). 1 + suffix_len (λ b. not (b == 10)) (take k src)) at in
+          suffix_len-take_yes (λ b. not (b == 10)) src (suc n) 0 (omega arith) within (rw (at, other) refl) ∙ ap (λ (k : ℕ). 1 + suffix_len (λ b. not (b == 10)) (take k src)) at in
           rw other (omega (arith, more, line_start_is src n (omega arith))))
     ]
 
@@ -39,10 +37,8 @@ line_start_back src n (suc d) none =
 
 pub line_start_found : (src : List ℕ) (k : ℕ) → k < length src → (get_or src k 0 == 10) ≡ true → ((j : ℕ) → k + 1 ≤ j → j < length src → (get_or src j 0 == 10) ≡ true → ⊥) → line_start src (length src) ≡ k + 1
 line_start_found src k within here after =
-    let whole : k + 1 + (length src - (k + 1)) ≡ length src = omega arith in
-    ap (line_start src) (sym whole) ∙ line_start_back src (k + 1) (length src - (k + 1)) (λ j low high. after j low (omega arith)) ∙ rw (add-one, here) refl
+    ap (line_start src) (sym (omega arith)) ∙ line_start_back src (k + 1) (length src - (k + 1)) (λ j low high. after j low (omega arith)) ∙ rw (add-one, here) refl
 
 pub line_start_none : (src : List ℕ) → ((j : ℕ) → 0 ≤ j → j < length src → (get_or src j 0 == 10) ≡ true → ⊥) → line_start src (length src) ≡ 0
 line_start_none src none =
-    let whole : 0 + length src ≡ length src = omega arith in
-    ap (line_start src) (sym whole) ∙ line_start_back src 0 (length src) (λ j low high. none j low (omega arith))
+    ap (line_start src) (sym (omega arith)) ∙ line_start_back src 0 (length src) (λ j low high. none j low (omega arith))

@@ -1,6 +1,5 @@
 -- An element alone is a document.
-use Rattle.std.proofs.Common.{◌≡◌, ◌≢◌, ℕ, ◌+◌, ◌-◌, ◌≤◌, ◌==◌, true, false, List, [], length, take, drop, refl, sym, ap, ◌∙◌, subst, arith, inl, inr, length-drop, length-take}
-use Rattle.std.specs.List.{starts_with}
+use Rattle.std.proofs.Common.{◌≡◌, ◌≢◌, ℕ, ◌+◌, ◌-◌, ◌≤◌, true, false, List, [], length, take, drop, sym, ap, ◌∙◌, subst, arith, inl, inr, length-drop, length-take}
 use Rattle.std.specs.Str.{IsUtf8}
 use Rattle.std.proofs.lemmas.Bool.{cases_Bool}
 use Rattle.std.proofs.lemmas.List.{drop-take, take-take, get_or-take}
@@ -14,7 +13,7 @@ use Rattle.rox_grammar.specs.Tree.{Root, resolved, document_tree}
 use Rattle.rox_grammar.specs.Names.{byte, slice}
 use Rattle.rox_grammar.specs.Content.{IsElement}
 use Rattle.rox_grammar.specs.WellNamed.{AreWellNamed}
-use Rattle.rox_grammar.specs.TextStart.{after_bom, MayHaveXmlDecl, not_declared, bom}
+use Rattle.rox_grammar.specs.TextStart.{after_bom, MayHaveXmlDecl, not_declared}
 use Rattle.rox_grammar.specs.Entities.{no_entities}
 use Rattle.rox_grammar.specs.Document.{Misc, no_misc}
 use Rattle.rox_theory.proofs.Constructions.{name_byte}
@@ -37,35 +36,28 @@ element_begins src i j b c one g = grind (arith, name_byte)
 -- No declaration begins with it.
 pub undeclared : (src : List ℕ) (i j b c : ℕ) (one : Forest Item) → IsElement true no_entities src i j b c one → at word.XmlDeclStart src i ≡ false
 undeclared src i j b c one is =
-    let first = element_begins src i j b c one is in
     elim (cases_Bool (at word.XmlDeclStart src i)) as (λ s. at word.XmlDeclStart src i ≡ false) [
-      | inl there ↦ absurd (first.1 (stands_reads (word_text word.XmlDeclStart) src i 1 there (omega arith)))
+      | inl there ↦ absurd ((element_begins src i j b c one is).1 (stands_reads (word_text word.XmlDeclStart) src i 1 there (omega arith)))
       | inr out ↦ out
     ]
 
 -- Nor a byte order mark.
 unmarked : (src : List ℕ) → byte src 0 ≡ 60 → after_bom src ≡ 0
 unfolding stands
-unmarked src first =
-    elim (cases_Bool (starts_with ◌==◌ src bom)) as (λ s. after_bom src ≡ 0) [
-      | inl there ↦ (let b : byte src (0 + 0) ≡ 239 = stands_reads bom src 0 0 there (omega arith) in absurd (omega arith))
-      | inr out ↦ rw out refl
-    ]
+unmarked src first = grind arith
 
 -- What it is written in.
 pub alone_utf8 : (src : List ℕ) (s e openings_left : ℕ) (one : Forest Item) → IsUtf8 src → IsElement true no_entities src s e 255 openings_left one → (e ≤ length src) × IsUtf8 (slice src s e)
 alone_utf8 src s e openings_left one utf8 is =
     let ends = element_ends true no_entities src s e 255 openings_left one is in
     let cut = ends_cut src e utf8 ends in
-    let inside = cut.0 in
     let lt = element_lt src true no_entities s e 255 openings_left one is in
     let first = element_begins src s e 255 openings_left one is in
     let n = length-take e src in
     let same = get_or-take e src s 0 lt in
     let start = IsCharBoundary-before_ascii (take e src) s (omega arith) (omega arith) in
-    let q : s + (e - s) ≡ e = omega arith in
-    let d : drop s (take e src) ≡ slice src s e = ap (λ (k : ℕ). drop s (take k src)) (sym q) ∙ drop-take s (e - s) src in
-    (inside, subst IsUtf8 d (IsUtf8-drop (take e src) s (IsUtf8-take src e utf8 cut) start))
+    let d : drop s (take e src) ≡ slice src s e = ap (λ (k : ℕ). drop s (take k src)) (sym (omega arith)) ∙ drop-take s (e - s) src in
+    (cut.0, subst IsUtf8 d (IsUtf8-drop (take e src) s (IsUtf8-take src e utf8 cut) start))
 
 -- An element of the slice.
 pub element_alone : (src : List ℕ) (s e openings_left : ℕ) (one : Forest Item) → IsUtf8 src → IsElement true no_entities src s e 255 openings_left one

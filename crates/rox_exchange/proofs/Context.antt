@@ -176,6 +176,5 @@ pub exchange_element : (mv : Move) (src own : List ℕ) (s e : ℕ) (hole one : 
 exchange_element mv src own s e hole one i j all front behind is new holds =
     let o = one_element src s e 255 255 hole is in
     let n = one_element own s (moved mv e) 255 255 one new in
-    let lt = element_lt src true no_entities s e 255 255 hole is in
     subst (λ (f : Forest Item). ElementWith own s (moved mv e) f i (moved mv j) (exchanged_items mv f s all)) (sym n.2)
-    (element_exchanged mv src own s e (moved mv e) hole n.0 o.0 n.1 o.1 lt o.2 front behind i j all refl holds)
+    (element_exchanged mv src own s e (moved mv e) hole n.0 o.0 n.1 o.1 (element_lt src true no_entities s e 255 255 hole is) o.2 front behind i j all refl holds)

@@ -1,24 +1,21 @@
 -- What is in a source is in each that has the same bytes up to its end.
-use Rattle.std.proofs.Common.{◌≡◌, ℕ, zero, suc, ◌+◌, ◌-◌, ◌<◌, ◌≤◌, ◌⊎◌, ◌==◌, Bool, true, false, List, [], ◌∷◌, ◌++◌, length, take, drop, get_or, refl, sym, ap, ◌∙◌, subst, arith, inl, inr, length-drop, length-take}
+use Rattle.std.proofs.Common.{◌≡◌, ℕ, zero, suc, ◌+◌, ◌-◌, ◌<◌, ◌≤◌, ◌⊎◌, ◌==◌, Bool, true, false, List, [], ◌∷◌, ◌++◌, length, take, drop, get_or, refl, sym, ap, ◌∙◌, subst, arith, inl, inr, length-drop, length-take, length-append}
 use Rattle.std.specs.List.{position_or_len, starts_with}
 use Rattle.std.proofs.lemmas.Bool.{cases_Bool}
-use Rattle.std.proofs.lemmas.List.{drop-take, take-take, get_or-take}
+use Rattle.std.proofs.lemmas.List.{drop-take, take-take, get_or-take, drop-append-le}
 use Rattle.std.proofs.lemmas.Grind.{common_steps}
 use Rattle.rox_grammar.specs.Search.{stands, before_mark, mark_from, byte_from}
 use Rattle.std.specs.Char.{encode_utf8, len_utf8}
 use Rattle.std.specs.Str.{chars, IsUtf8, IsCharBoundary, encode_utf8_all}
 use Rattle.std.proofs.lemmas.Str.{chars-append, encodes-chars, length-encode, IsUtf8-drop}
-use Rattle.std.proofs.lemmas.List.{drop-append-le}
-use Rattle.std.proofs.Common.{length-append}
 use Rattle.rox_grammar.specs.Runs.{run_end, passing}
 use Rattle.rox_grammar.specs.Chars.{is_char}
 use Rattle.rox_grammar.specs.FixedTexts.{word_text}
 use Rattle.rox_grammar.specs.declared.fault.Word.TheVariants as word
 use Rattle.rox_grammar.specs.Names.{byte, slice}
 use Rattle.rox_grammar.specs.Constructs.{AreChars, IsComment, IsAttValue}
-use Rattle.rox_grammar.specs.FixedTexts.{double_dash}
 use Rattle.rox_grammar.specs.Content.{IsCharacterData}
-use Rattle.rox_theory.proofs.Productions.{comment_parts, comment_made, char_data_parts}
+use Rattle.rox_theory.proofs.Productions.{comment_made, char_data_parts}
 use Rattle.rox_theory.proofs.FirstMarks.{mark_behind, unmarked_run, starts_take}
 use Rattle.rox_theory.proofs.RunLemmas.{run_inside}
 
@@ -44,8 +41,7 @@ first_cut p (suc n) (x ∷ xs) (y ∷ ys) h some =
       | inr later ↦ (
           let there : p y ≡ false = rw (← both.0) later in
           let some' : 1 + position_or_len p xs < suc n = rw later at some in
-          let ih = first_cut p n xs ys both.1 (omega arith) in
-          rw (later, there) (ap (λ (k : ℕ). 1 + k) ih))
+          rw (later, there) (ap (λ (k : ℕ). 1 + k) (first_cut p n xs ys both.1 (omega arith))))
     ]
 
 -- The first mark.
@@ -106,8 +102,7 @@ module _ (src to : List ℕ) (m : ℕ) (same : take m src ≡ take m to) where
   -- A slice.
   pub slice_cut : (i j : ℕ) → i ≤ j → j ≤ m → slice src i j ≡ slice to i j
   slice_cut i j le fits =
-      let f = front (i + (j - i)) (omega arith) in
-      sym (drop-take i (j - i) src) ∙ ap (drop i) f ∙ drop-take i (j - i) to
+      sym (drop-take i (j - i) src) ∙ ap (drop i) (front (i + (j - i)) (omega arith)) ∙ drop-take i (j - i) to
 
   -- A place within both.
   pub within_cut : (e : ℕ) → e < m → e < length src → e < length to
@@ -118,16 +113,7 @@ module _ (src to : List ℕ) (m : ℕ) (same : take m src ≡ take m to) where
   -- A comment.
   pub comment_cut : (i e j : ℕ) → j ≤ m → IsComment src i e j → IsComment to i e j
   unfolding run_end
-  comment_cut i e j fits is =
-      let next = (comment_parts is).next in
-      let chars = (comment_parts is).chars in
-      comment_made (record {
-        opens = sym (stands_cut (word_text word.CommentStart) i (omega arith)) ∙ (comment_parts is).opens;
-        dashes = mark_from_cut double_dash (i + 4) e (comment_parts is).dashes (omega arith) (omega arith);
-        chars = chars_cut (i + 4) e (omega arith) (comment_parts is).chars;
-        closes = sym (stands_cut (word_text word.CommentEnd) e (omega arith)) ∙ (comment_parts is).closes;
-        next = (comment_parts is).next;
-      })
+  comment_cut i e j fits is = grind (arith, comment_made, stands_cut, mark_from_cut, chars_cut)
 
   -- A literal.
   pub literal_cut : (i e j : ℕ) → j ≤ m → IsAttValue src i e j → IsAttValue to i e j
@@ -167,8 +153,7 @@ passing_front p (c ∷ cs) ds some =
           let some' : len_utf8 c + passing p (cs ++ ds) < length (encode_utf8 c ++ encode_utf8_all cs) = rw passes at some in
           let n = length-append (encode_utf8 c) (encode_utf8_all cs) in
           let m = length-encode c in
-          let ih = passing_front p cs ds (omega arith) in
-          rw passes (ap (λ (k : ℕ). len_utf8 c + k) ih))
+          rw passes (ap (λ (k : ℕ). len_utf8 c + k) (passing_front p cs ds (omega arith))))
       | inr fails ↦ rw fails refl
     ]
 
@@ -177,9 +162,7 @@ pub run_end_front : (p : ℕ → Bool) (front back : List ℕ) (i : ℕ) → IsU
 unfolding run_end
 run_end_front p front back i utf8 cut below =
     let rest = IsUtf8-drop front i utf8 cut in
-    let split : drop i (front ++ back) ≡ drop i front ++ back = drop-append-le i front back cut.0 in
-    let both : chars (drop i (front ++ back)) ≡ chars (drop i front) ++ chars back = ap chars split ∙ chars-append (drop i front) back rest in
-    let spelled : encode_utf8_all (chars (drop i front)) ≡ drop i front = encodes-chars (drop i front) rest in
-    let n : length (encode_utf8_all (chars (drop i front))) ≡ length front - i = ap length spelled ∙ length-drop i front in
+    let both : chars (drop i (front ++ back)) ≡ chars (drop i front) ++ chars back = ap chars (drop-append-le i front back cut.0) ∙ chars-append (drop i front) back rest in
+    let n : length (encode_utf8_all (chars (drop i front))) ≡ length front - i = ap length (encodes-chars (drop i front) rest) ∙ length-drop i front in
     let some : passing p (chars (drop i front) ++ chars back) < length (encode_utf8_all (chars (drop i front))) = subst (λ (cs : List ℕ). passing p cs < length (encode_utf8_all (chars (drop i front)))) both (omega arith) in
     ap (λ (cs : List ℕ). i + passing p cs) both ∙ ap (λ (k : ℕ). i + k) (passing_front p (chars (drop i front)) (chars back) some)

@@ -34,11 +34,10 @@ module _ (src to : List ℕ) (m : ℕ) (f : Fronts src to m) where
   misc_cut i j item fits (instruction _ n e _ is) =
       let next = (pi_parts is).next in
       let le = pi_le src i n e j is in
-      let le0 = le.0 in
       let le1 = le.1 in
       let le2 = run_end_le is_space src n in
       let p = pi_cut src to m f i n e j fits is in
-      subst (λ (bs : List ℕ). IsMisc to i j (PI i j bs (none_if_empty (slice src (spaces_end src n) e)))) (sym (slice_cut src to m f.same (i + 2) n le0 (omega arith)))
+      subst (λ (bs : List ℕ). IsMisc to i j (PI i j bs (none_if_empty (slice src (spaces_end src n) e)))) (sym (slice_cut src to m f.same (i + 2) n le.0 (omega arith)))
       (subst (λ (bs : List ℕ). IsMisc to i j (PI i j (slice to (i + 2) n) (none_if_empty bs))) (sym (slice_cut src to m f.same (spaces_end src n) e le1 (omega arith) ∙ ap (λ (x : ℕ). slice to x e) p.1))
       (instruction i n e j p.0))
 

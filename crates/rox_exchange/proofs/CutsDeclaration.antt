@@ -55,9 +55,8 @@ module _ (src to : List ℕ) (m : ℕ) (f : Fronts src to m) where
   pub word_cut : (c : ℕ) (mark : List ℕ) (i q : ℕ) → 0 < c → IsMissing c mark → i ≤ q → q < m → byte src q ≡ c → stands mark src i ≡ stands mark to i
   unfolding stands
   word_cut c mark i q some none le below is =
-      let e : i + (q - i) ≡ q = omega arith in
       starts_before c mark some none (m - i) (q - i) (drop i src) (drop i to) (fronts src to m f.same i (omega arith)) (omega arith)
-      (get_or-drop i src (q - i) 0 ∙ ap (byte src) e ∙ is)
+      (get_or-drop i src (q - i) 0 ∙ ap (byte src) (omega arith) ∙ is)
 
   pair_lt : (i n v e j : ℕ) (name : Name) → IsPair src i name n v e j → i < j
   pair_lt i n v e j name (is_name, eq, literal) = omega (arith, qname_le src i name n is_name, eq_lt src n v eq, literal_lt src v e j literal)
@@ -92,8 +91,7 @@ module _ (src to : List ℕ) (m : ℕ) (f : Fronts src to m) where
       let is_end : byte src q ≡ 62 = stands_reads (word_text word.PIEnd) src p 1 closes (omega arith) in
       let inside : q < length src = byte_within src q (λ z. omega arith) in
       let l : byte src (i + 4) ≡ 108 = stands_reads (word_text word.XmlDeclStart) src i 4 opens (omega arith) in
-      let five : i + 4 + 1 ≡ i + 5 = omega arith in
-      let start : IsCharBoundary (take m src) (i + 5) = subst (IsCharBoundary (take m src)) five (behind src to m f 108 (i + 4) (omega arith) l (omega arith)) in
+      let start : IsCharBoundary (take m src) (i + 5) = subst (IsCharBoundary (take m src)) (omega arith) (behind src to m f 108 (i + 4) (omega arith) l (omega arith)) in
       let white = space_cut src to m f (i + 5) (spaces_end src (i + 5)) start (omega arith) refl in
       let one = may_cut q (omega arith) is_end inside word.Version (spaces_end src (i + 5)) v lacks_version white.1 (omega arith) first in
       let two = may_cut q (omega arith) is_end inside word.Encoding v e lacks_encoding one.1 (omega arith) second in

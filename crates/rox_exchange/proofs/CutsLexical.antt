@@ -49,15 +49,13 @@ module _ (src to : List ℕ) (m : ℕ) (f : Fronts src to m) where
       let s = slice_cut src to m f.same i j (ncname_le src i j n) (omega arith) in
       (subst (λ (bs : List ℕ). IsQName to i (record { prefix = []; local = bs }) j) (sym s) (unprefixed i j r.0 (has_other 58 j below last)), r.1)
   qname_cut i name j cut below (prefixed _ k _ n colon rest last) =
-      let le = ncname_le src i k n in
       let le' = ncname_le src (k + 1) j rest in
-      let r = ncname_cut i k cut (omega arith) n in
       let t = ncname_cut (k + 1) j (behind src to m f 58 k (omega arith) colon (omega arith)) below rest in
-      let s = slice_cut src to m f.same i k le (omega arith) in
+      let s = slice_cut src to m f.same i k (ncname_le src i k n) (omega arith) in
       let u = slice_cut src to m f.same (k + 1) j le' (omega arith) in (
         subst (λ (bs : List ℕ). IsQName to i (record { prefix = bs; local = slice src (k + 1) j }) j) (sym s)
             (subst (λ (bs : List ℕ). IsQName to i (record { prefix = slice to i k; local = bs }) j) (sym u)
-            (prefixed i k j r.0 (has_byte 58 k (omega arith) colon) t.0 (has_other 58 j below last))),
+            (prefixed i k j (ncname_cut i k cut (omega arith) n).0 (has_byte 58 k (omega arith) colon) t.0 (has_other 58 j below last))),
         t.1,
       )
   qname_cut i name j cut below (colon_first _ _ colon n last) =
@@ -140,8 +138,7 @@ module _ (src to : List ℕ) (m : ℕ) (f : Fronts src to m) where
       let le2 = run_end_le is_space src n in
       let question = stands_reads (word_text word.PIStart) src i 1 (pi_parts is).opens (omega arith) in
       let close = stands_reads (word_text word.PIEnd) src e 0 (pi_parts is).closes (omega arith) in
-      let z : e + 0 ≡ e = omega arith in
-      let close' : byte to e ≡ 63 = has_byte 63 e (omega arith) (ap (byte src) (sym z) ∙ close) in
+      let close' : byte to e ≡ 63 = has_byte 63 e (omega arith) (ap (byte src) (sym (omega arith)) ∙ close) in
       let one : i + 1 + 1 ≡ i + 2 = omega arith in
       let t = name_cut (i + 2) n (subst (IsCharBoundary (take m src)) one (behind src to m f 63 (i + 1) (omega arith) question (omega arith))) (omega arith) (pi_parts is).target in
       let s = space_cut n (spaces_end src n) t.1 (omega arith) refl in (

@@ -14,8 +14,6 @@ use Rattle.rox_exchange.proofs.Cuts.{byte_cut, slice_cut, literal_cut}
 use Rattle.rox_exchange.proofs.Fronts.{behind}
 use Rattle.rox_exchange.proofs.CutsLexical.{space_cut, has_byte, has_other, qname_cut, eq_cut, reference_cut, reference_same, character_cut}
 use Rattle.rox_exchange.proofs.Order.{qname_le, eq_lt, literal_lt, attribute_lt, attributes_le, tag_ends_lt}
-use Rattle.rox_grammar.specs.Constructs.{IsPair}
-use Rattle.rox_grammar.specs.Content.{attribute}
 use Rattle.rox_theory.proofs.Basics.{run_end_le}
 use Rattle.rox_theory.proofs.LiteralLemmas.{from_here}
 
@@ -59,12 +57,10 @@ module _ (src to : List ℕ) (m : ℕ) (f : Fronts src to m) where
   -- A character begins after a literal.
   pub behind_literal : (i e j : ℕ) → j ≤ m → IsAttValue src i e j → IsCharBoundary (take m src) j
   behind_literal i e j fits is =
-      let next = is.0.3 in
-      let end = is.0.1 in
       let q = from_here (λ c. c == byte src i) src (i + 1) (omega arith) in
-      let same : byte src e ≡ byte src i = eqb-true _ _ (subst (λ (x : ℕ). (byte src x == byte src i) ≡ true) (sym end) q) in
+      let same : byte src e ≡ byte src i = eqb-true _ _ (subst (λ (x : ℕ). (byte src x == byte src i) ≡ true) (sym is.0.1) q) in
       let small : byte src i < 128 = elim is.0.0 as (λ s. byte src i < 128) [ inl one ↦ omega arith | inr two ↦ omega arith ] in
-      subst (IsCharBoundary (take m src)) (sym next) (behind src to m f (byte src i) e (omega arith) same small)
+      subst (IsCharBoundary (take m src)) (sym is.0.3) (behind src to m f (byte src i) e (omega arith) same small)
 
   -- A pair ends in its quote.
   pub pair_cut : (i n v e j : ℕ) (name : Name) → IsCharBoundary (take m src) i → j ≤ m → IsPair src i name n v e j → IsPair to i name n v e j × IsCharBoundary (take m src) j
@@ -93,10 +89,9 @@ module _ (src to : List ℕ) (m : ℕ) (f : Fronts src to m) where
       let lt = attribute_lt src main Includes (spaces_end src i) n b d a is in
       let le = attributes_le src main Includes n j d c rest more in
       let s = space_cut src to m f i (spaces_end src i) cut (omega arith) refl in
-      let same = s.0 in
       let one = attribute_cut main Includes (spaces_end src i) n b d a s.1 (omega arith) is in
       let others = attributes_cut main Includes n j d c rest one.1 fits more in
-      (one_more i n j b d c a rest (omega arith) (subst (λ (x : ℕ). IsAttribute main Includes to x n b d a) same one.0) others.0, others.1)
+      (one_more i n j b d c a rest (omega arith) (subst (λ (x : ℕ). IsAttribute main Includes to x n b d a) s.0 one.0) others.0, others.1)
 
   -- The end of a tag.
   pub tag_ends_cut : (i : ℕ) (is_empty : Bool) (j : ℕ) → IsCharBoundary (take m src) i → j ≤ m → TagEnds src i is_empty j → TagEnds to i is_empty j

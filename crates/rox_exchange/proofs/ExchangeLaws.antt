@@ -1,7 +1,7 @@
 -- Exchanges keep elements self-contained, may be taken back, and commute.
-use Rattle.std.proofs.Common.{◌≡◌, ℕ, zero, suc, ◌+◌, ◌-◌, ◌<◌, ◌≤◌, ◌&&◌, true, List, [], ◌++◌, length, take, drop, lt-ltb, le-ltb, refl, sym, ap, ◌∙◌, subst, arith, inl, inr, length-take, length-append, take-append-drop}
+use Rattle.std.proofs.Common.{◌≡◌, ℕ, zero, suc, ◌+◌, ◌-◌, ◌<◌, ◌≤◌, true, List, [], ◌++◌, length, take, drop, lt-ltb, le-ltb, refl, sym, ap, ◌∙◌, subst, arith, inl, inr, length-take, length-append, take-append-drop}
 use Rattle.std.specs.Str.{IsUtf8}
-use Rattle.std.proofs.lemmas.Bool.{cases_lt}
+use Rattle.std.proofs.lemmas.Bool.{cases_lt, and_parts}
 use Rattle.std.proofs.lemmas.List.{append_assoc, drop-drop}
 use Rattle.std.proofs.Math.Seq.{drop-append_seam}
 use Rattle.rox_grammar.specs.Forest.{Forest, Nil, Cons, size}
@@ -11,7 +11,6 @@ use Rattle.rox_grammar.specs.NodeRanges.{is_element_node}
 use Rattle.rox_grammar.specs.Names.{slice}
 use Rattle.rox_grammar.specs.Exchange.{Move, moved, moved_node, shifted, subtree, exchanged, lists_none, none_of, self_contained, row_start, row_end, start_at, end_at, replaced, HasTree, change, with_other, text_with}
 use Rattle.rox_exchange.specs.ExchangeLaws.{AreSeparate, id_after, StaysContained, GoesBack, Commutes}
-use Rattle.std.proofs.lemmas.Bool.{and_parts}
 use Rattle.rox_reading.proofs.Stretches.{range_length}
 use Rattle.rox_theory.proofs.Without.{parse_without}
 use Rattle.rox_exchange.proofs.Named.{none_listed}
@@ -30,13 +29,11 @@ single (Cons node children rest) (suc k) is =
     elim (cases_lt k (size children)) as (λ q. (one : Node) × (below : Forest Node) × (subtree (Cons node children rest) (suc k) ≡ Cons one below Nil) × (is_element_node one ≡ true)) [
       | inl under ↦ (
           let inside = lt-ltb k (size children) under in
-          let both : (lists_none node && self_contained children k) ≡ true = rw inside at is in
-          let s = single children k (and_parts (lists_none node) (self_contained children k) both).1 in
+          let s = single children k (and_parts (lists_none node) (self_contained children k) (rw inside at is)).1 in
           (s.0, s.1, rw inside s.2, s.3))
       | inr past ↦ (
           let out = le-ltb k (size children) past in
-          let later : self_contained rest (k - size children) ≡ true = rw out at is in
-          let s = single rest (k - size children) later in
+          let s = single rest (k - size children) (rw out at is) in
           (s.0, s.1, rw out s.2, s.3))
     ]
 
@@ -122,15 +119,13 @@ apart_in i j (Cons (Element a z t) children rest) (suc k) (suc l) (below, lt, lo
     elim (cases_lt k n) as (λ q. end_at (resolved [] (Cons (Element a z t) children rest)) (suc k) ≤ start_at (resolved [] (Cons (Element a z t) children rest)) (suc l)) [
       | inl k_under ↦ (
           let k_in = lt-ltb k n k_under in
-          let both : (none_of scope && self_contained (resolved scope children) k) ≡ true = rw k_in at is in
-          let parts = and_parts (none_of scope) (self_contained (resolved scope children) k) both in
+          let parts = and_parts (none_of scope) (self_contained (resolved scope children) k) (rw k_in at is) in
           let bare = none_listed scope parts.0 in
           let k_is = subst (λ (ds : List NamespaceDecl). self_contained (resolved ds children) k ≡ true) bare parts.1 in
           elim (cases_lt l n) as (λ q. end_at (resolved [] (Cons (Element a z t) children rest)) (suc k) ≤ start_at (resolved [] (Cons (Element a z t) children rest)) (suc l)) [
             | inl l_under ↦ (
                 let l_in = lt-ltb l n l_under in
-                let both' : (none_of scope && self_contained (resolved scope children) l) ≡ true = rw l_in at is' in
-                let parts' = and_parts (none_of scope) (self_contained (resolved scope children) l) both' in
+                let parts' = and_parts (none_of scope) (self_contained (resolved scope children) l) (rw l_in at is') in
                 let l_is = subst (λ (ds : List NamespaceDecl). self_contained (resolved ds children) l ≡ true) bare parts'.1 in
                 let le' : suc k + size (subtree (resolved scope children) k) ≤ suc l = rw k_in at le in
                 let le_bare = subst (λ (ds : List NamespaceDecl). suc k + size (subtree (resolved ds children) k) ≤ suc l) bare le' in
@@ -158,10 +153,8 @@ apart_in i j (Cons (Text a z v borrowed) children rest) (suc k) (suc l) (bare, n
     (λ k_is l_is fits.
     let k_out = le-ltb k 0 (omega arith) in
     let l_out = le-ltb l 0 (omega arith) in
-    let k_is' : self_contained (resolved [] rest) (k - 0) ≡ true = rw k_out at k_is in
-    let l_is' : self_contained (resolved [] rest) (l - 0) ≡ true = rw l_out at l_is in
     let fits' : suc k + size (subtree (resolved [] rest) (k - 0)) ≤ suc l = rw k_out at fits in
-    rw (k_out, l_out) (apart_in i j rest (k - 0) (l - 0) next k_is' l_is' (omega arith))) is is' le
+    rw (k_out, l_out) (apart_in i j rest (k - 0) (l - 0) next (rw k_out at k_is) (rw l_out at l_is) (omega arith))) is is' le
 apart_in i j (Cons (Comment a z v) children rest) zero l order is is' le = cc is
 apart_in i j (Cons (Comment a z v) children rest) (suc k) zero order is is' le = cc is'
 apart_in i j (Cons (Comment a z v) children rest) (suc k) (suc l) (bare, next) is is' le =
@@ -170,10 +163,8 @@ apart_in i j (Cons (Comment a z v) children rest) (suc k) (suc l) (bare, next) i
     (λ k_is l_is fits.
     let k_out = le-ltb k 0 (omega arith) in
     let l_out = le-ltb l 0 (omega arith) in
-    let k_is' : self_contained (resolved [] rest) (k - 0) ≡ true = rw k_out at k_is in
-    let l_is' : self_contained (resolved [] rest) (l - 0) ≡ true = rw l_out at l_is in
     let fits' : suc k + size (subtree (resolved [] rest) (k - 0)) ≤ suc l = rw k_out at fits in
-    rw (k_out, l_out) (apart_in i j rest (k - 0) (l - 0) next k_is' l_is' (omega arith))) is is' le
+    rw (k_out, l_out) (apart_in i j rest (k - 0) (l - 0) next (rw k_out at k_is) (rw l_out at l_is) (omega arith))) is is' le
 apart_in i j (Cons (PI a z v o) children rest) zero l order is is' le = cc is
 apart_in i j (Cons (PI a z v o) children rest) (suc k) zero order is is' le = cc is'
 apart_in i j (Cons (PI a z v o) children rest) (suc k) (suc l) (bare, next) is is' le =
@@ -182,10 +173,8 @@ apart_in i j (Cons (PI a z v o) children rest) (suc k) (suc l) (bare, next) is i
     (λ k_is l_is fits.
     let k_out = le-ltb k 0 (omega arith) in
     let l_out = le-ltb l 0 (omega arith) in
-    let k_is' : self_contained (resolved [] rest) (k - 0) ≡ true = rw k_out at k_is in
-    let l_is' : self_contained (resolved [] rest) (l - 0) ≡ true = rw l_out at l_is in
     let fits' : suc k + size (subtree (resolved [] rest) (k - 0)) ≤ suc l = rw k_out at fits in
-    rw (k_out, l_out) (apart_in i j rest (k - 0) (l - 0) next k_is' l_is' (omega arith))) is is' le
+    rw (k_out, l_out) (apart_in i j rest (k - 0) (l - 0) next (rw k_out at k_is) (rw l_out at l_is) (omega arith))) is is' le
 
 -- By ids of the whole tree.
 apart_tops : (n : ℕ) (tops : Forest Item) (i j : ℕ) → Ordered 0 n tops → self_contained (document_tree n tops) i ≡ true → self_contained (document_tree n tops) j ≡ true
@@ -195,16 +184,13 @@ apart_tops n tops (suc i) zero order is is' le = cc is'
 apart_tops n tops (suc i) (suc j) order is is' le =
     let i_in = lt-ltb i (size (resolved [] tops)) (omega (arith, contained_inside (document_tree n tops) (suc i) is)) in
     let j_in = lt-ltb j (size (resolved [] tops)) (omega (arith, contained_inside (document_tree n tops) (suc j) is')) in
-    let i_is : self_contained (resolved [] tops) i ≡ true = rw i_in at is in
-    let j_is : self_contained (resolved [] tops) j ≡ true = rw j_in at is' in
     let fits : suc i + size (subtree (resolved [] tops) i) ≤ suc j = rw i_in at le in
-    rw (i_in, j_in) (apart_in 0 n tops i j order i_is j_is (omega arith))
+    rw (i_in, j_in) (apart_in 0 n tops i j order (rw i_in at is) (rw j_in at is') (omega arith))
 
 apart_ids : (text : List ℕ) (f : Forest Node) (i j : ℕ) → HasTree text f → self_contained f i ≡ true → self_contained f j ≡ true → i + size (subtree f i) ≤ j → end_at f i ≤ start_at f j
 apart_ids text f i j h is is' le =
-    let n = length text in
     subst (λ (g : Forest Node). self_contained g i ≡ true → self_contained g j ≡ true → i + size (subtree g i) ≤ j → end_at g i ≤ start_at g j) (sym h.shown)
-    (apart_tops n h.written i j (tops_ordered text h.written (parse_without text [] h.written h.parse).1)) is is' le
+    (apart_tops (length text) h.written i j (tops_ordered text h.written (parse_without text [] h.written h.parse).1)) is is' le
 
 -- ---- on texts
 
@@ -219,8 +205,7 @@ replace_mid x y v b i j at_i at_j =
 -- A slice and what is after it.
 rejoin : (t : List ℕ) (i j : ℕ) → i ≤ j → slice t i j ++ drop j t ≡ drop i t
 rejoin t i j le =
-    let e : j ≡ i + (j - i) = omega arith in
-    ap (λ (k : ℕ). slice t i j ++ drop k t) e ∙ ap (λ (d : List ℕ). slice t i j ++ d) (sym (drop-drop (j - i) i t)) ∙ take-append-drop (j - i) (drop i t)
+    ap (λ (k : ℕ). slice t i j ++ drop k t) (omega arith) ∙ ap (λ (d : List ℕ). slice t i j ++ d) (sym (drop-drop (j - i) i t)) ∙ take-append-drop (j - i) (drop i t)
 
 assoc_three : (x y z w : List ℕ) → (x ++ (y ++ z)) ++ w ≡ x ++ (y ++ (z ++ w))
 assoc_three x y z w = append_assoc x (y ++ z) w ∙ ap (λ (l : List ℕ). x ++ l) (append_assoc y z w)
@@ -336,13 +321,12 @@ module _ (text : List ℕ) (f : Forest Node) (i : ℕ) (one_text : List ℕ) (on
         let f1 = with_other f i one a in
         let h1 = new_tree text f i one_text one a utf8 utf8_one h h_one is_i is_a in
         let u1 = new_utf8 text f i one_text one a utf8 utf8_one h h_one is_i is_a in
-        let t2 = text_with f text j two two_text b in
         let f2 = with_other f j two b in
         let h2 = new_tree text f j two_text two b utf8 utf8_two h h_two is_j is_b in
         let u2 = new_utf8 text f j two_text two b utf8 utf8_two h h_two is_j is_b in
         let left = new_tree t1 f1 (id_after f i one a j) two_text two b u1 utf8_two h1 h_two j_contained is_b in
         let left_utf8 = new_utf8 t1 f1 (id_after f i one a j) two_text two b u1 utf8_two h1 h_two j_contained is_b in
-        let right = new_tree t2 f2 (id_after f j two b i) one_text one a u2 utf8_one h2 h_one i_contained is_a in
+        let right = new_tree (text_with f text j two two_text b) f2 (id_after f j two b i) one_text one a u2 utf8_one h2 h_one i_contained is_a in
         same_tree (text_with f1 t1 (id_after f i one a j) two two_text b) (with_other f1 (id_after f i one a j) two b) (with_other f2 (id_after f j two b i) one a) left_utf8 left
         (subst (λ (t : List ℕ). HasTree t (with_other f2 (id_after f j two b i) one a)) (sym texts_agree) right);
   }

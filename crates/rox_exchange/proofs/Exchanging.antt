@@ -1,5 +1,5 @@
 -- Where nodes stand once a node has been exchanged for an element, and what is said of them: on trees alone.
-use Rattle.std.proofs.Common.{◌≡◌, ℕ, zero, suc, ◌+◌, ◌-◌, ◌<◌, ◌≤◌, ◌&&◌, true, lt-ltb, le-ltb, refl, arith, inl, inr}
+use Rattle.std.proofs.Common.{◌≡◌, ℕ, zero, suc, ◌+◌, ◌-◌, ◌<◌, ◌≤◌, true, lt-ltb, le-ltb, refl, arith, inl, inr}
 use Rattle.std.proofs.lemmas.Bool.{cases_lt, and_parts}
 use Rattle.std.proofs.lemmas.Bool.Decides.{nat_tests}
 use Rattle.rox_grammar.specs.Forest.{Forest, Nil, Cons, size}
@@ -60,9 +60,7 @@ contained_inside (Cons node children rest) (suc k) is =
     elim (cases_lt k (size children)) as (λ q. suc k < size (Cons node children rest)) [
       | inl under ↦ omega arith
       | inr past ↦ (
-          let out = le-ltb k (size children) past in
-          let later : self_contained rest (k - size children) ≡ true = rw out at is in
-          let n = contained_inside rest (k - size children) later in
+          let n = contained_inside rest (k - size children) (rw (le-ltb k (size children) past) at is) in
           omega arith)
     ]
 
@@ -92,14 +90,12 @@ module _ (m : Move) (new : Node) (below : Forest Node) where
       elim (cases_lt id (size children)) as (λ q. self_contained (exchanged m one (Cons node children rest) (suc id)) (suc id) ≡ is_element_node new) [
         | inl under ↦ (
             let in' = lt-ltb id (size children) under in
-            let both : (lists_none node && self_contained children id) ≡ true = rw in' at is in
-            let parts = and_parts (lists_none node) (self_contained children id) both in
+            let parts = and_parts (lists_none node) (self_contained children id) (rw in' at is) in
             let in_new = lt-ltb id (size (exchanged m one children id)) (stays_under children id id under (omega arith)) in
             rw (in', in_new, stretched_lists m node, parts.0) (itself_contained children id parts.1))
         | inr past ↦ (
             let out = le-ltb id (size children) past in
-            let later : self_contained rest (id - size children) ≡ true = rw out at is in
-            rw out (rw out (itself_contained rest (id - size children) later)))
+            rw out (rw out (itself_contained rest (id - size children) (rw out at is))))
       ]
 
   pub itself_there : (f : Forest Node) (id : ℕ) → id < size f → subtree (exchanged m one f id) id ≡ one
@@ -133,18 +129,16 @@ module _ (m : Move) (new : Node) (below : Forest Node) where
   before_there (Cons node children rest) (suc id) (suc k) lt before less =
       elim (cases_lt id (size children)) as (λ q. subtree (exchanged m one (Cons node children rest) (suc id)) (suc k) ≡ subtree (Cons node children rest) (suc k)) [
         | inl under ↦ (
-            let in' = lt-ltb id (size children) under in
             let k_in = lt-ltb k (size children) (omega arith) in
             let before' : suc k + size (subtree children k) ≤ suc id = rw k_in at before in
             let in_new = lt-ltb k (size (exchanged m one children id)) (stays_under children id k under (omega arith)) in
-            rw (in', in_new, k_in) (before_there children id k under (omega arith) (omega arith)))
+            rw ((lt-ltb id (size children) under), in_new, k_in) (before_there children id k under (omega arith) (omega arith)))
         | inr past ↦ elim (cases_lt k (size children)) as (λ q. subtree (exchanged m one (Cons node children rest) (suc id)) (suc k) ≡ subtree (Cons node children rest) (suc k)) [
           | inl k_under ↦ grind (arith, nat_tests)
           | inr k_past ↦ (
-              let out = le-ltb id (size children) past in
               let k_out = le-ltb k (size children) k_past in
               let before' : suc k + size (subtree rest (k - size children)) ≤ suc id = rw k_out at before in
-              rw out (rw k_out (before_there rest (id - size children) (k - size children) (omega arith) (omega arith) (omega arith))))
+              rw (le-ltb id (size children) past) (rw k_out (before_there rest (id - size children) (k - size children) (omega arith) (omega arith) (omega arith))))
         ]
       ]
 
@@ -160,8 +154,7 @@ module _ (m : Move) (new : Node) (below : Forest Node) where
   behind_contained (Cons node children rest) (suc id) (suc k) lt behind =
       elim (cases_lt id (size children)) as (λ q. self_contained (exchanged m one (Cons node children rest) (suc id)) (later (Cons node children rest) (suc id) (suc k)) ≡ self_contained (Cons node children rest) (suc k)) [
         | inl under ↦ (
-            let in' = lt-ltb id (size children) under in
-            let behind' : suc id + size (subtree children id) ≤ suc k = rw in' at behind in
+            let behind' : suc id + size (subtree children id) ≤ suc k = rw (lt-ltb id (size children) under) at behind in
             let n = exchanged_size children id under in
             elim (cases_lt k (size children)) as (λ q. self_contained (exchanged m one (Cons node children rest) (suc id)) (later (Cons node children rest) (suc id) (suc k)) ≡ self_contained (Cons node children rest) (suc k)) [
               | inl k_under ↦ grind (arith, nat_tests, lt-ltb k (size children) k_under, lt-ltb (later children id k) (size (exchanged m one children id)) (omega arith), behind_contained children id k under (omega arith))
@@ -170,11 +163,10 @@ module _ (m : Move) (new : Node) (below : Forest Node) where
         | inr past ↦ (
             let out = le-ltb id (size children) past in
             let behind' : suc id + size (subtree rest (id - size children)) ≤ suc k = rw out at behind in
-            let k_out = le-ltb k (size children) (omega arith) in
             let e : suc k + size one - size (subtree rest (id - size children)) ≡ suc (size children + later rest (id - size children) (k - size children)) = omega arith in
             let new_out = le-ltb (size children + later rest (id - size children) (k - size children)) (size children) (omega arith) in
             let e' : size children + later rest (id - size children) (k - size children) - size children ≡ later rest (id - size children) (k - size children) = omega arith in
-            rw (out, e, new_out, e', k_out) (behind_contained rest (id - size children) (k - size children) (omega arith) (omega arith)))
+            rw (out, e, new_out, e', (le-ltb k (size children) (omega arith))) (behind_contained rest (id - size children) (k - size children) (omega arith) (omega arith)))
       ]
 
   pub behind_there : (f : Forest Node) (id k : ℕ) → id < size f → id + size (subtree f id) ≤ k → subtree (exchanged m one f id) (later f id k) ≡ shifted m (subtree f k)
@@ -185,8 +177,7 @@ module _ (m : Move) (new : Node) (below : Forest Node) where
   behind_there (Cons node children rest) (suc id) (suc k) lt behind =
       elim (cases_lt id (size children)) as (λ q. subtree (exchanged m one (Cons node children rest) (suc id)) (later (Cons node children rest) (suc id) (suc k)) ≡ shifted m (subtree (Cons node children rest) (suc k))) [
         | inl under ↦ (
-            let in' = lt-ltb id (size children) under in
-            let behind' : suc id + size (subtree children id) ≤ suc k = rw in' at behind in
+            let behind' : suc id + size (subtree children id) ≤ suc k = rw (lt-ltb id (size children) under) at behind in
             let n = exchanged_size children id under in
             elim (cases_lt k (size children)) as (λ q. subtree (exchanged m one (Cons node children rest) (suc id)) (later (Cons node children rest) (suc id) (suc k)) ≡ shifted m (subtree (Cons node children rest) (suc k))) [
               | inl k_under ↦ grind (arith, nat_tests, lt-ltb k (size children) k_under, lt-ltb (later children id k) (size (exchanged m one children id)) (omega arith), behind_there children id k under (omega arith))
@@ -195,9 +186,8 @@ module _ (m : Move) (new : Node) (below : Forest Node) where
         | inr past ↦ (
             let out = le-ltb id (size children) past in
             let behind' : suc id + size (subtree rest (id - size children)) ≤ suc k = rw out at behind in
-            let k_out = le-ltb k (size children) (omega arith) in
             let e : suc k + size one - size (subtree rest (id - size children)) ≡ suc (size children + later rest (id - size children) (k - size children)) = omega arith in
             let new_out = le-ltb (size children + later rest (id - size children) (k - size children)) (size children) (omega arith) in
             let e' : size children + later rest (id - size children) (k - size children) - size children ≡ later rest (id - size children) (k - size children) = omega arith in
-            rw (out, e, new_out, e', k_out) (behind_there rest (id - size children) (k - size children) (omega arith) (omega arith)))
+            rw (out, e, new_out, e', (le-ltb k (size children) (omega arith))) (behind_there rest (id - size children) (k - size children) (omega arith) (omega arith)))
       ]

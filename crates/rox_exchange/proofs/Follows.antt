@@ -1,12 +1,11 @@
 -- What is at a place of a source stands wherever the same bytes follow: bytes, runs, marks, slices.
 use Rattle.std.proofs.Common.{◌≡◌, ℕ, ◌+◌, ◌-◌, ◌≤◌, ◌==◌, Bool, List, length, take, drop, sym, ap, ◌∙◌, subst, arith, length-drop}
-use Rattle.std.specs.List.{position_or_len, starts_with, prefix_len}
+use Rattle.std.specs.List.{starts_with}
 use Rattle.std.specs.Str.{chars}
 use Rattle.std.proofs.lemmas.List.{drop-drop, drop-take}
 use Rattle.std.proofs.lemmas.Grind.{common_steps}
-use Rattle.rox_grammar.specs.Chars.{is_char}
-use Rattle.rox_grammar.specs.Runs.{run_end, passing, begins, first_passes}
-use Rattle.rox_grammar.specs.Search.{stands, before_mark, mark_from, byte_from}
+use Rattle.rox_grammar.specs.Runs.{run_end, begins, first_passes}
+use Rattle.rox_grammar.specs.Search.{stands, mark_from, byte_from}
 use Rattle.rox_grammar.specs.Names.{byte, slice}
 use Rattle.rox_grammar.specs.References.{bytes_end}
 use Rattle.rox_grammar.specs.Constructs.{AreChars}
@@ -25,9 +24,7 @@ module _ (m : Move) (src to : List ℕ) where
   -- And from each later place on.
   pub from : (i k j : ℕ) → i ≤ j → Follows m src i to k → Follows m src j to (moved m j)
   from i k j le f =
-      let a : i + (j - i) ≡ j = omega arith in
-      let b : k + (j - i) ≡ moved m j = omega arith in
-      subst (λ (x : ℕ). Follows m src j to x) b (subst (λ (x : ℕ). Follows m src x to (k + (j - i))) a (on i k (j - i) f))
+      subst (λ (x : ℕ). Follows m src j to x) (omega arith) (subst (λ (x : ℕ). Follows m src x to (k + (j - i))) (omega arith) (on i k (j - i) f))
 
   -- A byte.
   pub byte_moves : (i k : ℕ) → Follows m src i to k → byte src i ≡ byte to k
@@ -45,34 +42,22 @@ module _ (m : Move) (src to : List ℕ) where
   -- The first place of a fixed text.
   pub mark_moves : (mark : List ℕ) (i k e : ℕ) → Follows m src i to k → e ≡ mark_from mark src i → moved m e ≡ mark_from mark to k
   unfolding mark_from
-  mark_moves mark i k e f is =
-      let at = f.at in
-      let q : before_mark mark (drop i src) ≡ before_mark mark (drop k to) = ap (before_mark mark) f.same in
-      omega arith
+  mark_moves mark i k e f is = grind arith
 
   -- The first place of a byte.
   pub byte_from_moves : (p : ℕ → Bool) (i k e : ℕ) → Follows m src i to k → e ≡ byte_from p src i → moved m e ≡ byte_from p to k
   unfolding byte_from
-  byte_from_moves p i k e f is =
-      let at = f.at in
-      let q : position_or_len p (drop i src) ≡ position_or_len p (drop k to) = ap (position_or_len p) f.same in
-      omega arith
+  byte_from_moves p i k e f is = grind arith
 
   -- The end of a stretch of bytes.
   pub bytes_end_moves : (p : ℕ → Bool) (i k e : ℕ) → Follows m src i to k → e ≡ bytes_end p src i → moved m e ≡ bytes_end p to k
   unfolding bytes_end
-  bytes_end_moves p i k e f is =
-      let at = f.at in
-      let q : prefix_len p (drop i src) ≡ prefix_len p (drop k to) = ap (prefix_len p) f.same in
-      omega arith
+  bytes_end_moves p i k e f is = grind arith
 
   -- The end of a run of characters.
   pub run_end_moves : (p : ℕ → Bool) (i k e : ℕ) → Follows m src i to k → e ≡ run_end p src i → moved m e ≡ run_end p to k
   unfolding run_end
-  run_end_moves p i k e f is =
-      let at = f.at in
-      let q : passing p (chars (drop i src)) ≡ passing p (chars (drop k to)) = ap (λ (bs : List ℕ). passing p (chars bs)) f.same in
-      omega arith
+  run_end_moves p i k e f is = grind arith
 
   -- Its first character.
   pub begins_moves : (p : ℕ → Bool) (i k : ℕ) → Follows m src i to k → begins p src i ≡ begins p to k
@@ -83,25 +68,17 @@ module _ (m : Move) (src to : List ℕ) where
   pub front_moves : (i k e : ℕ) → i ≤ e → Follows m src i to k → drop i (take e src) ≡ drop k (take (moved m e) to)
   front_moves i k e le f =
       let d = e - i in
-      let a : i + d ≡ e = omega arith in
-      let b : k + d ≡ moved m e = omega arith in
-      ap (λ (n : ℕ). drop i (take n src)) (sym a) ∙ drop-take i d src ∙ ap (take d) f.same ∙ sym (drop-take k d to) ∙ ap (λ (n : ℕ). drop k (take n to)) b
+      ap (λ (n : ℕ). drop i (take n src)) (sym (omega arith)) ∙ drop-take i d src ∙ ap (take d) f.same ∙ sym (drop-take k d to) ∙ ap (λ (n : ℕ). drop k (take n to)) (omega arith)
 
   -- Chars.
   pub chars_move : (i k e : ℕ) → i ≤ e → Follows m src i to k → AreChars src i e → AreChars to k (moved m e)
   unfolding run_end
-  chars_move i k e le f are =
-      let at = f.at in
-      let q : passing is_char (chars (drop i (take e src))) ≡ passing is_char (chars (drop k (take (moved m e) to))) = ap (λ (bs : List ℕ). passing is_char (chars bs)) (front_moves i k e le f) in
-      omega arith
+  chars_move i k e le f are = grind (arith, front_moves)
 
   -- A byte of what is up to a place.
   pub markup_moves : (p : ℕ → Bool) (i k e : ℕ) → i ≤ e → Follows m src i to k → e ≡ byte_from p (take e src) i → moved m e ≡ byte_from p (take (moved m e) to) k
   unfolding byte_from
-  markup_moves p i k e le f is =
-      let at = f.at in
-      let q : position_or_len p (drop i (take e src)) ≡ position_or_len p (drop k (take (moved m e) to)) = ap (position_or_len p) (front_moves i k e le f) in
-      omega arith
+  markup_moves p i k e le f is = grind (arith, front_moves)
 
   -- A slice.
   pub slice_moves : (i k e : ℕ) → i ≤ e → Follows m src i to k → slice src i e ≡ slice to k (moved m e)

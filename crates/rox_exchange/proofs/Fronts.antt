@@ -24,8 +24,7 @@ passing_more p (c ∷ cs) ds some =
           let some' : len_utf8 c + passing p cs < length (encode_utf8 c ++ encode_utf8_all cs) = rw passes at some in
           let n = length-append (encode_utf8 c) (encode_utf8_all cs) in
           let m = length-encode c in
-          let ih = passing_more p cs ds (omega arith) in
-          rw passes (ap (λ (k : ℕ). len_utf8 c + k) ih))
+          rw passes (ap (λ (k : ℕ). len_utf8 c + k) (passing_more p cs ds (omega arith))))
       | inr fails ↦ rw fails refl
     ]
 
@@ -34,10 +33,8 @@ run_end_more : (p : ℕ → Bool) (front back : List ℕ) (i : ℕ) → IsUtf8 f
 unfolding run_end
 run_end_more p front back i utf8 cut below =
     let rest = IsUtf8-drop front i utf8 cut in
-    let split : drop i (front ++ back) ≡ drop i front ++ back = drop-append-le i front back cut.0 in
-    let both : chars (drop i (front ++ back)) ≡ chars (drop i front) ++ chars back = ap chars split ∙ chars-append (drop i front) back rest in
-    let spelled : encode_utf8_all (chars (drop i front)) ≡ drop i front = encodes-chars (drop i front) rest in
-    let n : length (encode_utf8_all (chars (drop i front))) ≡ length front - i = ap length spelled ∙ length-drop i front in
+    let both : chars (drop i (front ++ back)) ≡ chars (drop i front) ++ chars back = ap chars (drop-append-le i front back cut.0) ∙ chars-append (drop i front) back rest in
+    let n : length (encode_utf8_all (chars (drop i front))) ≡ length front - i = ap length (encodes-chars (drop i front) rest) ∙ length-drop i front in
     ap (λ (cs : List ℕ). i + passing p cs) both ∙ ap (λ (k : ℕ). i + k) (passing_more p (chars (drop i front)) (chars back) (omega arith))
 
 -- Its first character is that of the text.
@@ -66,8 +63,7 @@ stretch_cut p (suc n) (x ∷ xs) (y ∷ ys) h some =
       | inl here ↦ (
           let there : p y ≡ true = rw (← both.0) here in
           let some' : 1 + prefix_len p xs < suc n = rw here at some in
-          let ih = stretch_cut p n xs ys both.1 (omega arith) in
-          rw (here, there) (ap (λ (k : ℕ). 1 + k) ih))
+          rw (here, there) (ap (λ (k : ℕ). 1 + k) (stretch_cut p n xs ys both.1 (omega arith))))
       | inr later ↦ (let there : p y ≡ false = rw (← both.0) later in rw (later, there) refl)
     ]
 

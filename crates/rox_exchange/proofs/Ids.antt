@@ -49,10 +49,7 @@ found_first i j a z t children rest (le, lt, low, next) =
 found_below : (i j a z : ℕ) (t : Tag) (children rest : Forest Item) (id : ℕ) → listed [] t.declarations ≡ [] → Ordered i j (Cons (Element a z t) children rest)
     → nat_lt id (size (resolved (listed [] t.declarations) children)) ≡ true → Found (a + 1) z children id → Found i j (Cons (Element a z t) children rest) (suc id)
 found_below i j a z t children rest id bare (le, lt, low, next) inside found =
-    let w = found.within in
-    let w1 = w.1 in
     let s = found.start in
-    let other = ne_eqb a s (λ e. omega arith) in
     let over = lt-ltb s z (omega arith) in
     record {
       start = s;
@@ -60,9 +57,9 @@ found_below i j a z t children rest id bare (le, lt, low, next) inside found =
       tag = found.tag;
       kids = found.kids;
       stands = below (Element a z t) children rest found.stands;
-      within = (omega arith, w1, omega (arith, ordered_le z j rest next));
+      within = (omega arith, found.within.1, omega (arith, ordered_le z j rest next));
       alone = rw inside (subst (λ (ds : List NamespaceDecl). subtree (resolved ds children) id ≡ resolved [] (Cons (Element s found.end found.tag) found.kids Nil)) (sym bare) found.alone);
-      contained = rw (other, over) (subst (λ (ds : List NamespaceDecl). (none_of ds && is_contained s children) ≡ true) (sym bare) found.contained);
+      contained = rw ((ne_eqb a s (λ e. omega arith)), over) (subst (λ (ds : List NamespaceDecl). (none_of ds && is_contained s children) ≡ true) (sym bare) found.contained);
       named = λ (own, under, others). found.named (subst (λ (ds : List NamespaceDecl). AreWellNamed ds children) bare under);
       exchange = grind (arith, moved_resolved);
     }
@@ -72,8 +69,6 @@ found_beside : (i j a z : ℕ) (t : Tag) (children rest : Forest Item) (id : ℕ
     → nat_lt id (size (resolved (listed [] t.declarations) children)) ≡ false → Found z j rest (id - size (resolved (listed [] t.declarations) children)) → Found i j (Cons (Element a z t) children rest) (suc id)
 found_beside i j a z t children rest id (le, lt, low, next) outside found =
     let w = found.within in
-    let w1 = w.1 in
-    let w2 = w.2 in
     let s = found.start in
     let other = ne_eqb a s (λ e. omega arith) in
     let over = le-ltb s z (omega arith) in
@@ -83,7 +78,7 @@ found_beside i j a z t children rest id (le, lt, low, next) outside found =
       tag = found.tag;
       kids = found.kids;
       stands = beside (Element a z t) children rest found.stands;
-      within = (omega arith, w1, w2);
+      within = (omega arith, w.1, w.2);
       alone = rw outside found.alone;
       contained = rw (other, over) found.contained;
       named = λ (own, under, others). found.named others;
@@ -96,8 +91,7 @@ found_leaf : (i j : ℕ) (item : Item) (rest : Forest Item) (id : ℕ) → ((s :
     → self_contained (resolved [] (Cons item Nil rest)) (suc id) ≡ true → (self_contained (resolved [] rest) (id - 0) ≡ true → Found i j rest (id - 0)) → Found i j (Cons item Nil rest) (suc id)
 found_leaf i j item rest id free same is more =
     let out : nat_lt id 0 ≡ false = le-ltb id 0 (omega arith) in
-    let later : self_contained (resolved [] rest) (id - 0) ≡ true = rw out at is in
-    let found = more later in
+    let found = more (rw out at is) in
     record {
       start = found.start;
       end = found.end;
@@ -118,14 +112,12 @@ find i j (Cons (Element a z t) children rest) (suc id) (le, lt, low, next) is =
     let scope = listed [] t.declarations in
     elim (cases_Bool (nat_lt id (size (resolved scope children)))) as (λ q. Found i j (Cons (Element a z t) children rest) (suc id)) [
       | inl inside ↦ (
-          let both : (none_of scope && self_contained (resolved scope children) id) ≡ true = rw inside at is in
-          let parts = and_parts _ _ both in
+          let parts = and_parts _ _ (rw inside at is) in
           let bare = none_listed scope parts.0 in
           let inner = subst (λ (ds : List NamespaceDecl). self_contained (resolved ds children) id ≡ true) bare parts.1 in
           found_below i j a z t children rest id bare (le, lt, low, next) inside (find (a + 1) z children id low inner))
       | inr outside ↦ (
-          let later : self_contained (resolved [] rest) (id - size (resolved scope children)) ≡ true = rw outside at is in
-          found_beside i j a z t children rest id (le, lt, low, next) outside (find z j rest (id - size (resolved scope children)) next later))
+          found_beside i j a z t children rest id (le, lt, low, next) outside (find z j rest (id - size (resolved scope children)) next (rw outside at is)))
     ]
 find i j (Cons (Text a z v borrowed) children rest) zero order is = cc is
 find i j (Cons (Text a z v borrowed) children rest) (suc id) (bare, next) is =

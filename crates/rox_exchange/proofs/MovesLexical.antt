@@ -2,14 +2,13 @@
 use Rattle.std.proofs.Common.{◌≡◌, ◌≢◌, ℕ, ◌+◌, ◌^◌, ◌<◌, Bool, List, [], refl, sym, ap, ◌∙◌, subst, arith}
 use Rattle.std.specs.Prelude.{codes}
 use Rattle.rox_grammar.specs.declared.fault.Word.TheVariants as word
-use Rattle.rox_grammar.specs.FixedTexts.{word_text}
+use Rattle.rox_grammar.specs.FixedTexts.{word_text, double_dash}
 use Rattle.rox_grammar.specs.Chars.{is_space, is_name_start, is_name_char, is_part_char}
 use Rattle.rox_grammar.specs.Search.{mark_from}
 use Rattle.rox_grammar.specs.Written.{Name}
 use Rattle.rox_grammar.specs.Names.{byte, slice, spaces_end, IsName, IsNCName, IsQName, unprefixed, prefixed, colon_first}
 use Rattle.rox_grammar.specs.References.{is_digit, is_hex_digit, number, character, predefined, IsNumber, IsReference, IsCharacter, decimal, hexadecimal, named}
 use Rattle.rox_grammar.specs.Constructs.{IsComment, IsPI, IsCData, IsEq, IsAttValue, IsEnd}
-use Rattle.rox_grammar.specs.FixedTexts.{double_dash}
 use Rattle.rox_grammar.specs.Content.{IsCharacterData}
 use Rattle.rox_grammar.specs.Exchange.{Move, moved}
 use Rattle.rox_exchange.specs.Local.{Follows}
@@ -140,16 +139,14 @@ module _ (m : Move) (src to : List ℕ) where
   pi_moves i k n e j f is =
       let next = (pi_parts is).next in
       let le = pi_le src i n e j is in
-      let le1 = le.1 in
-      let g = from m src to i k n (omega arith) f in
-      let s = space_end n (moved m n) g in
+      let s = space_end n (moved m n) (from m src to i k n (omega arith) f) in
       let long = run_end_le is_space src n in
       pi_made (record {
         opens = sym (stands_moves m src to (word_text word.PIStart) i k f) ∙ (pi_parts is).opens;
         no_declaration = sym (stands_moves m src to (word_text word.XmlDeclStart) i k f) ∙ (pi_parts is).no_declaration;
         target = name_moves (i + 2) (k + 2) n (on m src to i k 2 f) (pi_parts is).target;
         end = mark_moves m src to (word_text word.PIEnd) (spaces_end src n) (spaces_end to (moved m n)) e s (pi_parts is).end;
-        chars = chars_move m src to (spaces_end src n) (spaces_end to (moved m n)) e le1 s (pi_parts is).chars;
+        chars = chars_move m src to (spaces_end src n) (spaces_end to (moved m n)) e le.1 s (pi_parts is).chars;
         closes = sym (stands_moves m src to (word_text word.PIEnd) e (moved m e) (from m src to i k e (omega arith) f)) ∙ (pi_parts is).closes;
         next = omega arith;
       })
@@ -185,8 +182,7 @@ module _ (m : Move) (src to : List ℕ) where
   end_moves i k name n j f is =
       let next = (end_parts is).next in
       let le = qname_le src (i + 2) name n (end_parts is).is_name in
-      let g = from m src to i k n (omega arith) f in
-      let s = space_end n (moved m n) g in
+      let s = space_end n (moved m n) (from m src to i k n (omega arith) f) in
       end_made (record {
         opens = sym (stands_moves m src to (word_text word.EndTagStart) i k f) ∙ (end_parts is).opens;
         is_name = qname_moves (i + 2) (k + 2) name n (on m src to i k 2 f) (end_parts is).is_name;

@@ -41,8 +41,7 @@ module _ (m : Move) (src to : List ℕ) where
       let g = on m src to i k 1 f in
       line_end k b c v (omega arith) (byte_is m src to 13 i k f cr) (byte_is m src to 10 (i + 1) (k + 1) g lf) (value_moves main Includes j (i + 1) (k + 1) b c v g more)
   value_moves main Includes j i k b c v f (white _ _ _ w lt is more) =
-      let g = on m src to i k 1 f in
-      white k b c w (omega arith) (is_white i k f lt is) (value_moves main Includes j (i + 1) (k + 1) b c w g more)
+      white k b c w (omega arith) (is_white i k f lt is) (value_moves main Includes j (i + 1) (k + 1) b c w (on m src to i k 1 f) more)
     where
       is_white : (i k : ℕ) → Follows m src i to k → i < j → (byte src i ≡ 9) ⊎ ((byte src i ≡ 10) ⊎ ((byte src i ≡ 13) × ((j ≡ i + 1) ⊎ (byte src (i + 1) ≢ 10))))
           → (byte to k ≡ 9) ⊎ ((byte to k ≡ 10) ⊎ ((byte to k ≡ 13) × ((moved m j ≡ k + 1) ⊎ (byte to (k + 1) ≢ 10))))
@@ -103,12 +102,10 @@ module _ (m : Move) (src to : List ℕ) where
   pub tag_ends_move : (i k : ℕ) (is_empty : Bool) (j : ℕ) → Follows m src i to k → TagEnds src i is_empty j → TagEnds to k is_empty (moved m j)
   tag_ends_move i k is_empty j f (opened _ close) =
       let s = space_end m src to i k f in
-      let e : spaces_end to k + 1 ≡ moved m (spaces_end src i + 1) = omega arith in
-      subst (λ (x : ℕ). TagEnds to k false x) e (opened k (byte_is m src to 62 (spaces_end src i) (spaces_end to k) s close))
+      subst (λ (x : ℕ). TagEnds to k false x) (omega arith) (opened k (byte_is m src to 62 (spaces_end src i) (spaces_end to k) s close))
   tag_ends_move i k is_empty j f (closed _ slash close) =
       let s = space_end m src to i k f in
-      let e : spaces_end to k + 2 ≡ moved m (spaces_end src i + 2) = omega arith in
-      subst (λ (x : ℕ). TagEnds to k true x) e
+      subst (λ (x : ℕ). TagEnds to k true x) (omega arith)
       (closed k (byte_is m src to 47 (spaces_end src i) (spaces_end to k) s slash) (byte_is m src to 62 (spaces_end src i + 1) (spaces_end to k + 1) (on m src to (spaces_end src i) (spaces_end to k) 1 s) close))
 
   -- A tag.
@@ -116,15 +113,13 @@ module _ (m : Move) (src to : List ℕ) where
   tag_moves main Includes i k j b c is_empty _ f (start_tag n last name written begin is_name list end) =
       let q = qname_le src (i + 1) name n is_name in
       let a = attributes_le src main Includes n last b c written list in
-      let g = from m src to i k n (omega arith) f in
-      let h = from m src to i k last (omega arith) f in
       tag_of (record {
         begins = byte_is m src to 60 i k f begin;
         is_name = qname_moves m src to (i + 1) (k + 1) name n (on m src to i k 1 f) is_name;
         written = map (moved_written m) written;
         last = moved m last;
-        attributes = attributes_go main Includes n (moved m n) last b c written g list;
-        ends = tag_ends_move last (moved m last) is_empty j h end;
+        attributes = attributes_go main Includes n (moved m n) last b c written (from m src to i k n (omega arith) f) list;
+        ends = tag_ends_move last (moved m last) is_empty j (from m src to i k last (omega arith) f) end;
         declares = sym (declarations_move m written);
         has = sym (attributes_move m written);
       })

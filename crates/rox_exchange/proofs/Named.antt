@@ -1,5 +1,5 @@
 -- Names stay well named where an element above which nothing is listed is exchanged for one whose names are declared within it.
-use Rattle.std.proofs.Common.{◌≡◌, ℕ, ◌==◌, ◌&&◌, true, List, [], nat_lt, subst, inl, inr, arith}
+use Rattle.std.proofs.Common.{◌≡◌, ℕ, ◌==◌, true, List, [], nat_lt, subst, inl, inr, arith}
 use Rattle.std.proofs.lemmas.Bool.{cases_Bool, and_parts}
 use Rattle.rox_grammar.specs.Forest.{Forest, Nil, Cons}
 use Rattle.rox_grammar.specs.Written.{NamespaceDecl, Item, Element, Text, Comment, PI}
@@ -23,14 +23,12 @@ module _ (mv : Move) (one : Forest Item) (s : ℕ) (new : AreWellNamed [] one) w
         | inl same ↦ rw same (named-join [] one (moved_items mv rest) new (moved_named mv [] rest beside))
         | inr other ↦ elim (cases_Bool (nat_lt s z)) as (λ q. AreWellNamed [] (exchanged_items mv one s (Cons (Element a z t) children rest))) [
           | inl inside ↦ (
-              let both : (none_of (listed [] t.declarations) && is_contained s children) ≡ true = rw (other, inside) at within in
-              let above = and_parts _ _ both in
+              let above = and_parts _ _ (rw (other, inside) at within) in
               let bare = none_listed (listed [] t.declarations) above.0 in
               let low : AreWellNamed (listed [] t.declarations) (exchanged_items mv one s children) = grind (arith, named_exchanged children above.1 (subst (λ (ds : List NamespaceDecl). AreWellNamed ds children) bare below)) in
               rw (other, inside) (own, low, moved_named mv [] rest beside))
           | inr behind ↦ (
-              let next : is_contained s rest ≡ true = rw (other, behind) at within in
-              rw (other, behind) (own, below, named_exchanged rest next beside))
+              rw (other, behind) (own, below, named_exchanged rest (rw (other, behind) at within) beside))
         ]
       ]
   named_exchanged (Cons (Text a z v borrowed) children rest) within (own, below, beside) = (own, below, named_exchanged rest within beside)

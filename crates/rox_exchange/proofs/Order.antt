@@ -1,13 +1,12 @@
 -- Each construct ends after its start.
 use Rattle.std.proofs.Common.{ℕ, ◌+◌, ◌<◌, ◌≤◌, Bool, true, false, List, take, arith}
-use Rattle.rox_grammar.specs.Content.{attribute}
+use Rattle.rox_grammar.specs.Content.{attribute, Inclusion, IsAttribute, Attributes, no_more, one_more, TagEnds, IsTag, IsMisc, IsElement, empty, nest, Content, ends, run, cdata, misc, node, start_tag}
 use Rattle.rox_grammar.specs.Chars.{is_char, is_space, is_name_char, is_part_char}
 use Rattle.rox_grammar.specs.Forest.{Forest}
 use Rattle.rox_grammar.specs.Written.{Name, Attribute, Tag, Item}
 use Rattle.rox_grammar.specs.Names.{spaces_end, IsName, IsNCName, IsQName}
 use Rattle.rox_grammar.specs.References.{IsReference, IsCharacter}
 use Rattle.rox_grammar.specs.Constructs.{AreChars, IsComment, IsPI, IsCData, IsEq, IsAttValue, IsEnd}
-use Rattle.rox_grammar.specs.Content.{Inclusion, IsAttribute, Attributes, no_more, one_more, TagEnds, IsTag, IsMisc, IsElement, empty, nest, Content, ends, run, cdata, misc, node, attribute, start_tag}
 use Rattle.rox_theory.proofs.Productions.{ncname_parts, reference_parts, comment_parts, pi_parts, cdata_parts, end_parts, char_data_parts}
 use Rattle.rox_theory.proofs.Basics.{run_end_le}
 

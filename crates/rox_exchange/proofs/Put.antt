@@ -63,9 +63,7 @@ module _ (src other : List ℕ) (s e a z : ℕ) (utf8 : IsUtf8 src) (utf8' : IsU
       let split : drop a other ≡ slice other a z ++ drop (z - a) (drop a other) = sym (take-append-drop (z - a) (drop a other)) in
       let wide_parts : wide ≡ (take s src ++ slice other a z) ++ drop (z - a) (drop a other) = ap (λ (l : List ℕ). take s src ++ l) split ∙ sym (append_assoc (take s src) (slice other a z) (drop (z - a) (drop a other))) in
       let starts : a + s - a ≡ s = omega arith in
-      let stops : z + s - a ≡ moved grows e = omega arith in
-      let here : Follows goes other a wide (a + s - a) = grind (arith, drop-append_seam) in
-      let moved_there = element_moves goes other wide a z 255 255 one here new in
+      let moved_there = element_moves goes other wide a z 255 255 one (grind (arith, drop-append_seam)) new in
       let first = element_begins src s e 255 255 hole is in
       let front_utf8 : IsUtf8 (take s src ++ slice other a z) = IsUtf8-append (take s src) (slice other a z) (IsUtf8-take src s utf8 (IsCharBoundary-before_ascii src s (omega arith) (omega arith))) (alone_utf8 other a z 255 one utf8' new).1 in
       let one_front : take (length (take s src ++ slice other a z)) wide ≡ take s src ++ slice other a z = ap (take (length (take s src ++ slice other a z))) wide_parts ∙ take_seam (take s src ++ slice other a z) (drop (z - a) (drop a other)) in
@@ -73,19 +71,17 @@ module _ (src other : List ℕ) (s e a z : ℕ) (utf8 : IsUtf8 src) (utf8' : IsU
       let front : Fronts wide own (length (take s src ++ slice other a z)) = grind (arith, length-append) in
       let cut = element_cut wide own (length (take s src ++ slice other a z)) front (a + s - a) (z + s - a) 255 255 (moved_items goes one) (omega arith) moved_there in
       subst (λ (k : ℕ). IsElement true no_entities own k (moved grows e) 255 255 (moved_items goes one)) starts
-      (subst (λ (k : ℕ). IsElement true no_entities own (a + s - a) k 255 255 (moved_items goes one)) stops cut)
+      (subst (λ (k : ℕ). IsElement true no_entities own (a + s - a) k 255 255 (moved_items goes one)) (omega arith) cut)
 
   -- Up to its `<` the new source is the old one.
   pub in_front : Fronts src own (s + 1)
   in_front =
       let n = sizes in
-      let short = n.4 in
-      let first = element_begins src s e 255 255 hole is in
       let second = element_begins own s (moved grows e) 255 255 (moved_items goes one) put in
-      let lead = first.0 in
+      let lead = (element_begins src s e 255 255 hole is).0 in
       let lead' = second.0 in
       let size : length own ≡ s + (z - a) + (length src - e) = ap length parts ∙ omega (arith, length-append (take s src ++ slice other a z) (drop e src), length-drop e src) in
-      let front : take s own ≡ take s src = ap (λ (k : ℕ). take k own) (sym short) ∙ take_seam (take s src) (slice other a z ++ drop e src) in
+      let front : take s own ≡ take s src = ap (λ (k : ℕ). take k own) (sym n.4) ∙ take_seam (take s src) (slice other a z ++ drop e src) in
       record {
         same = take_more s src (omega arith) ∙ ap (λ (b : ℕ). take s src ++ b ∷ []) (lead ∙ sym lead') ∙ ap (λ (l : List ℕ). l ++ get_or own s 0 ∷ []) (sym front) ∙ sym (take_more s own (omega arith));
         inside = omega arith;

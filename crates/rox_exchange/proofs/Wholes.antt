@@ -12,7 +12,7 @@ use Rattle.rox_grammar.specs.WellNamed.{AreWellNamed}
 use Rattle.rox_grammar.specs.Entities.{no_entities}
 use Rattle.rox_grammar.proofs.CountForms.{limits_counted, counts_limited}
 use Rattle.rox_grammar.specs.Document.{IsWithinLimits, IsTreeOf}
-use Rattle.rox_grammar.specs.Exchange.{Move, moved, shifted, subtree, exchanged, self_contained, row_start, row_end, start_at, end_at, replaced, HasTree, with_other, text_with}
+use Rattle.rox_grammar.specs.Exchange.{Move, shifted, subtree, exchanged, self_contained, row_start, row_end, start_at, end_at, replaced, HasTree, with_other, text_with}
 use Rattle.rox_theory.specs.WithoutDoctype.{ParseWithout}
 use Rattle.rox_theory.proofs.Without.{parse_without, parse_with}
 use Rattle.rox_theory.proofs.OneParse.{one_plain_parse}
@@ -117,9 +117,8 @@ module _ (text : List ℕ) (tree : Forest Node) (id : ℕ) (other_text : List �
       ≡ document_tree (length (replaced text w.found.start w.found.end (slice other_text w'.found.start w'.found.end))) (exchanged_items grows (moved_items goes one) w.found.start w.tops)
   shown_exchanged =
       let put_in = moved_items goes one in
-      let all : exchanged grows (resolved [] put_in) (document_tree (length text) w.tops) (suc w.below) ≡ document_tree (moved grows (length text)) (exchanged_items grows put_in w.found.start w.tops) = grind arith in
       ap (λ (f : Forest Node). exchanged grows f tree id) (sym (moved_resolved goes [] one)) ∙ ap (λ (f : Forest Node). exchanged grows (resolved [] put_in) f id) w.shown
-      ∙ ap (exchanged grows (resolved [] put_in) (document_tree (length text) w.tops)) w.is_below ∙ all
+      ∙ ap (exchanged grows (resolved [] put_in) (document_tree (length text) w.tops)) w.is_below ∙ (grind arith)
       ∙ ap (λ (n : ℕ). document_tree n (exchanged_items grows put_in w.found.start w.tops))
       (long_exchanged text other_text w.found.start w.found.end w'.found.start w'.found.end w.found.tag w.found.kids one utf8 utf8' new_is (named_is other_text other at utf8' w') w.tops w.parse w.found.stands w.found.contained)
 

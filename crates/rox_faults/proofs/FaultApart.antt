@@ -34,8 +34,7 @@ use Rattle.rox_faults.proofs.FaultRows.{behind}
 pub declaration_bytes : (src : List ℕ) (i : ℕ) → at word.XmlDeclStart src i ≡ true → at word.PIStart src i ≡ true
 declaration_bytes src i h =
     let fits = stands_fits (word_text word.XmlDeclStart) src i (omega arith) h in
-    let same : i + 0 ≡ i = omega arith in
-    let one : byte src i ≡ 60 = subst (λ (k : ℕ). byte src k ≡ 60) same (stands_reads (word_text word.XmlDeclStart) src i 0 h (omega arith)) in
+    let one : byte src i ≡ 60 = subst (λ (k : ℕ). byte src k ≡ 60) (omega arith) (stands_reads (word_text word.XmlDeclStart) src i 0 h (omega arith)) in
     stands_two 60 63 src i (omega arith) one (stands_reads (word_text word.XmlDeclStart) src i 1 h (omega arith))
 
 -- No comment is where an instruction does.

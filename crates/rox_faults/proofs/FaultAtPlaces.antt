@@ -1,6 +1,6 @@
 -- At a place on the way of a parse no fault stands but those of the limits, and where it is within the limits none; nor does one
 -- stand in a value of a start tag there.
-use Rattle.std.proofs.Common.{◌≡◌, ◌≢◌, ℕ, suc, ◌+◌, ◌-◌, ◌<◌, ◌≤◌, ◌⊎◌, ◌==◌, Bool, true, false, List, [], length, Some, Ok, refl, sym, ap, ◌∙◌, subst, arith, inl, inr}
+use Rattle.std.proofs.Common.{◌≡◌, ◌≢◌, ℕ, suc, ◌+◌, ◌-◌, ◌<◌, ◌≤◌, ◌⊎◌, ◌==◌, Bool, true, false, List, length, Some, Ok, refl, sym, ap, ◌∙◌, subst, arith, inl, inr}
 use Rattle.std.specs.Str.{IsUtf8, IsCharBoundary}
 use Rattle.std.proofs.lemmas.Str.{IsCharBoundary-before_ascii, IsCharBoundary-end}
 use Rattle.std.proofs.lemmas.Bool.{cases_Bool, lt-leb, le-leb, eq-eqb, eqb-true}
@@ -129,16 +129,11 @@ module _ (opens : ℕ → Inclusion) (es : List Entity) (all : OpensAt opens es)
     end_apart : (f : Fault) → InEnd open_around src s f → ⊥
     unfolding tag_of
     end_apart f (lacks _ (q, t, due.DueInEnd.its_name opens', no_qname none)) = let there = end_there opens' in none there.1.name there.4 (end_parts there.8).is_name
-    end_apart f (lacks _ (q, t, due.DueInEnd.its_end name n opens' is_name, lack)) =
-        let there = end_there opens' in
-        let same = (one_qname src (s.at + 2) n there.4 name there.1.name is_name (end_parts there.8).is_name).1 in
-        let closes : byte src (spaces_end src n) ≡ 62 = ap (λ (n : ℕ). byte src (spaces_end src n)) same ∙ (end_parts there.8).closes in
-        byte_stands src 62 (spaces_end src n) f (omega arith) closes lack
+    end_apart f (lacks _ (q, t, due.DueInEnd.its_end name n opens' is_name, lack)) = grind (arith, end_there, one_qname, end_parts, byte_stands)
     end_apart f (other_name n j start name tag before up expected actual stack deep is apart holds holds') =
         let there = end_there (end_parts is).opens in
         let same = end_one src s.at there.5 j there.4 n there.1.name name there.8 is in
-        let one : tag ≡ there.1 = ap (tag_of tag) (sym stack ∙ there.6) in
-        absurd (apart (ap (λ (t : Tag). t.name) one ∙ same.0))
+        absurd (apart (ap (λ (t : Tag). t.name) (ap (tag_of tag) (sym stack ∙ there.6)) ∙ same.0))
     end_apart f (none_open n j name none is) =
         let there = end_there (end_parts is).opens in
         let depth : depth_of s.stack ≡ depth_of there.3 + 1 = ap depth_of there.6 in
@@ -186,16 +181,11 @@ module _ (opens : ℕ → Inclusion) (es : List Entity) (all : OpensAt opens es)
     stands_apart f (in_tag _ begins ill) = let there = tag_there begins in read_tag_apart there.0 f there.1 there.2 there.3 ill
     stands_apart f (in_end _ inner ill) = absurd (end_apart f ill)
     stands_apart f (unknown inner less' (inl last)) =
-        let same = eq-eqb _ _ less' in
-        let past = le-leb (length src) (s.at + 1) (omega arith) in
-        let is : kind_at src s.at ≡ nothing = rw (same, past) refl in
+        let is : kind_at src s.at ≡ nothing = rw ((eq-eqb _ _ less'), (le-leb (length src) (s.at + 1) (omega arith))) refl in
         absurd (there_by opens es all limit W k open_around src here r nothing (omega arith) is)
     stands_apart f (unknown inner less' (inr (mark, no_comment, no_section))) =
-        let same = eq-eqb _ _ less' in
         let inside' = within src (s.at + 1) (λ z. omega arith) in
-        let more = lt-leb (length src) (s.at + 1) inside' in
-        let bang = eq-eqb _ _ mark in
-        let is : kind_at src s.at ≡ nothing = rw (same, more, bang, no_comment, no_section) refl in
+        let is : kind_at src s.at ≡ nothing = rw ((eq-eqb _ _ less'), (lt-leb (length src) (s.at + 1) inside'), (eq-eqb _ _ mark), no_comment, no_section) refl in
         absurd (there_by opens es all limit W k open_around src here r nothing (omega arith) is)
     stands_apart f (unclosed deep past) =
         let same : depth_of s.stack ≡ depth_of r.end.stack = ap (λ (s : State). depth_of s.stack) (trail_past here r.end r.trail past) in
@@ -255,7 +245,6 @@ module _ (opens : ℕ → Inclusion) (es : List Entity) (all : OpensAt opens es)
       let there = value_front (is_main m) (opens m) (spends_once outer.depth m outer.deep) part' stop' i' p refers.0 j d' c outer.openings_left front outer.bytes to outer.value below refers.1 refers.2 in
       let x = all.value m c there.1 name there.0 there.2 in
       let text = all.texts name t refers.3 in
-      let text_is : x.0 ≡ t = same_text es name x.0 t x.3 refers.3 in
       let value : Value false (opens (suc m)) t.source (length t.source) t.start d x.2 there.0 = grind arith in
       record {
         depth = most_deep - suc m;
@@ -266,7 +255,7 @@ module _ (opens : ℕ → Inclusion) (es : List Entity) (all : OpensAt opens es)
         openings_left = x.2;
         bytes = there.0;
         value = value;
-        chars = subst (λ (t : Replacement). AreChars t.source t.start (length t.source)) text_is x.5;
+        chars = subst (λ (t : Replacement). AreChars t.source t.start (length t.source)) (same_text es name x.0 t x.3 refers.3) x.5;
       }
 
   -- No fault is in it.

@@ -49,10 +49,8 @@ quoted_fails src i f h =
     bind_err (quote_at src i) _ f h (λ bad. inl bad)
     (λ q quoted h.
     let quote = quote_sound src i q quoted in
-    let q0 : q.0 ≡ byte src i = quote.1 in
-    let q1 : q.1 ≡ i + 1 = quote.2 in
     bind_err (byte_at q.0 src (byte_from (λ c. c == q.0) src q.1)) _ f h
-    (λ bad. let bad' = rw (q0, q1) at bad in inr (quote.0, byte_fails (byte src i) src (quoted_end src i) f bad'))
+    (λ bad. let bad' = rw (quote.1, quote.2) at bad in inr (quote.0, byte_fails (byte src i) src (quoted_end src i) f bad'))
     (λ x ok h. no_fault _ f h))
 
 -- After white space.
@@ -92,9 +90,7 @@ public_fails src i f is h =
 external_fails : (src : List ℕ) (i : ℕ) (f : Fault) → external_id_at src i ≡ Err f
     → Misses src (DueInExternalID src i) f ⊎ ((at word.System src i ≡ false) × (at word.Public src i ≡ false) × (fault.InvalidExternalID i ≡ f))
 unfolding external_id_at
-external_fails src i f h =
-    chosen (at word.System src i) _ _ _ h (λ is h. inl (system_fails src i f is h))
-    (λ no h. chosen (at word.Public src i) _ _ _ h (λ is h. inl (public_fails src i f is h)) (λ none h. inr (no, none, cc)))
+external_fails src i f h = grind (arith, system_fails, public_fails)
 
 -- ---- the declaration of an entity
 

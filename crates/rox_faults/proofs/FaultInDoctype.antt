@@ -80,8 +80,7 @@ module _ (src : List ℕ) (utf8 : IsUtf8 src) where
   external_apart i j p request t f (public _ s d k v e _ is sp q sp' q') (due.DueInExternalID.first _ _ which due') lack =
       literal_apart (i + 6) s d k p t f (six_cut word.Public src i 67 utf8 is (omega arith) refl (omega arith) (omega arith)) sp q due' lack
   external_apart i j p request t f (public _ s d k v e _ is sp q sp' q') (due.DueInExternalID.second s' d' k' _ _ other space' first due') lack =
-      let at_first = space_once src (i + 6) s' s space' sp in
-      let same = (quoted_once src s d' k' d k (subst (λ (s : ℕ). IsQuoted src s d' k') at_first first) q).1 in
+      let same = (quoted_once src s d' k' d k (subst (λ (s : ℕ). IsQuoted src s d' k') (space_once src (i + 6) s' s space' sp) first) q).1 in
       literal_apart k v e j p t f (quoted_cut src s d k utf8 q) sp' q' (subst (λ (k : ℕ). DueInLiteral src k p t) same due') lack
 
   -- Where something is required in an external id, one begins.
@@ -168,12 +167,10 @@ module _ (src : List ℕ) (utf8 : IsUtf8 src) where
       where
         notation_cut : (e : ℕ) → at word.NData src (spaces_end src e) ≡ true → IsCharBoundary src (spaces_end src e + 5)
         notation_cut e opens =
-            let last : spaces_end src e + 4 + 1 ≡ spaces_end src e + 5 = omega arith in
-            subst (IsCharBoundary src) last (word_cut word.NData src (spaces_end src e) 4 65 utf8 opens (omega arith) refl (omega arith) (omega arith))
+            subst (IsCharBoundary src) (omega arith) (word_cut word.NData src (spaces_end src e) 4 65 utf8 opens (omega arith) refl (omega arith) (omega arith))
     entity_apart q t f (due.DueInEntity.its_notation n m d e _ request begins is opens sp inside) lack =
         let there = notation_there d b.e e false asked b.text request refl (defines n m d false begins) is opens in
-        let same = space_once src (spaces_end src e + 5) there.0 q there.1 sp in
-        name_stands src q b.e f (subst (λ (s : ℕ). IsName src s b.e) same there.2) lack
+        name_stands src q b.e f (subst (λ (s : ℕ). IsName src s b.e) (space_once src (spaces_end src e + 5) there.0 q there.1 sp) there.2) lack
 
     -- The `>` after its definition.
     pub end_stands : (n m d e : ℕ) (parameter : Bool) (first : List Asked) (text : Option Replacement) (f : Fault) → BeginsEntity src i parameter n m d → IsDefinition src parameter d e first text
@@ -207,16 +204,14 @@ module _ (src : List ℕ) (utf8 : IsUtf8 src) where
   head_apart : (i s p : ℕ) (t : DueItem) (f : Fault) → BeginsDoctype src i s → (byte src s ≡ 62) ⊎ (byte src s ≡ 91) → DueInDoctype src i p t → IsMissing src p t f → ⊥
   head_apart i s p t f is ends due.DueInDoctype.space_before lack =
       let b = doctype_parts is in
-      let last : i + 8 + 1 ≡ i + 9 = omega arith in
-      let cut = subst (IsCharBoundary src) last (word_cut word.DoctypeStart src i 8 69 utf8 b.opens (omega arith) refl (omega arith) (omega arith)) in
+      let cut = subst (IsCharBoundary src) (omega arith) (word_cut word.DoctypeStart src i 8 69 utf8 b.opens (omega arith) refl (omega arith) (omega arith)) in
       spaced (i + 9) b.n f cut b.space_before lack
   head_apart i s p t f is ends (due.DueInDoctype.its_name _ sp inside) lack =
       let b = doctype_parts is in
       name_stands src p b.m f (subst (λ (n : ℕ). IsName src n b.m) (space_once src (i + 9) b.n p b.space_before sp) b.name) lack
   head_apart i s p t f is ends (due.DueInDoctype.its_external_id n m _ _ sp name due') lack =
       let b = doctype_parts is in
-      let at_name = space_once src (i + 9) n b.n sp b.space_before in
-      let end : m ≡ b.m = name.longest ∙ ap (λ (n : ℕ). run_end is_name_char src n) at_name ∙ sym b.name.longest in
+      let end : m ≡ b.m = name.longest ∙ ap (λ (n : ℕ). run_end is_name_char src n) (space_once src (i + 9) n b.n sp b.space_before) ∙ sym b.name.longest in
       by_external (spaces_end src b.m) b.x b.external (subst (λ (m : ℕ). DueInExternalID src (spaces_end src m) p t) end due')
     where
       by_external : (x y : ℕ) → MayHaveExternalID src x y → DueInExternalID src x p t → ⊥
@@ -251,8 +246,7 @@ module _ (src : List ℕ) (utf8 : IsUtf8 src) where
       → Closed p items nodes asked given more
   closed_there i j p items nodes asked given more es (no_subset _ s begins closes) (subset_to t first begins' opens' read') same = grind (arith, doctype_once)
   closed_there i j p items nodes asked given more es (with_subset _ s k _ _ _ begins opens subset bracket closes) (subset_to t first begins' opens' read') same =
-      let at_end = doctype_once src utf8 i t s begins' begins in
-      let read : Subset src (s + 1) p items asked first = subst (λ (s : ℕ). Subset src (s + 1) p items asked first) at_end read' in
+      let read : Subset src (s + 1) p items asked first = subst (λ (s : ℕ). Subset src (s + 1) p items asked first) (doctype_once src utf8 i t s begins' begins) read' in
       record { k = k; bracket = bracket; closes = closes; es = first; fs = es; front = subset_front src utf8 k bracket (s + 1) p items nodes asked given more first es read subset same }
 
   -- A fault in it is that of a limit.

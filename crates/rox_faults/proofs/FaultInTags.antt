@@ -46,7 +46,6 @@ use Rattle.rox_faults.proofs.FaultTags.{attribute_cut}
 use Rattle.rox_faults.proofs.FaultApart.{qname_stands, byte_stands, space_stands}
 use Rattle.rox_faults.proofs.FaultPairs.{one_qname, pair_apart}
 use Rattle.rox_faults.proofs.StateCounts.{attributes_are, more_pairs_counted}
-use Rattle.rox_grammar.specs.Content.{attribute}
 
 -- ---- names
 
@@ -74,8 +73,7 @@ no_greater = refl
 starts_no_greater : (src : List ℕ) (i : ℕ) → begins is_name_start src i ≡ true → byte src i ≢ 62
 starts_no_greater src i starts is =
     let b = begins_here is_name_start src i (within src i (λ z. omega arith)) (omega arith) in
-    let f : begins is_name_start src i ≡ false = b ∙ rw is no_greater in
-    true≢false (sym starts ∙ f)
+    true≢false (sym starts ∙ (b ∙ rw is no_greater))
 
 -- Nor at a qualified name.
 name_no_greater : (src : List ℕ) (i : ℕ) (name : Name) (n : ℕ) → IsQName src i name n → byte src i ≢ 62
@@ -192,16 +190,14 @@ module _ (context : Values) (O : Inclusion) (agrees : AgreesValue context.entiti
         → ◌≡◌ {A = Tag} (record { name = name; name_end = to.0; declarations = namespace_decls_of as'; attributes = plain_attributes_of as' }) tag
     same_tag p k c x name as' to ends =
         let t : Tag = record { name = name; name_end = to.0; declarations = namespace_decls_of as'; attributes = plain_attributes_of as' } in
-        let is' : IsTag context.main O src s.at k b c x t = start_tag to.0 p name as' is.begins to.1 to.3 ends in
-        (one_tag context O agrees src utf8 s.at k j b c e t tag x empty is' is_tag).1
+        (one_tag context O agrees src utf8 s.at k j b c e t tag x empty (start_tag to.0 p name as' is.begins to.1 to.3 ends) is_tag).1
 
     -- So no fault of a start tag is in it but those of the limits: rows 1 to 6, 9, 10, 13 to 15, 19 to 24, 31.
     pub tag_apart : (f : Fault) → InTag context.main O src s b f → IsOver W f
     tag_apart f (no_name _ lack) = absurd (qname_stands src (s.at + 1) tag.name_end tag.name f is.is_name lack)
     tag_apart f (xmlns_prefix name n named prefix) =
         let same : name ≡ tag.name = (one_qname src (s.at + 1) n tag.name_end name tag.name named is.is_name).0 in
-        let prefix' : tag.name.prefix ≡ word_text word.Xmlns = ap (λ (n : Name). n.prefix) (sym same) ∙ prefix in
-        absurd (true≢false (sym ((bytes_eq-Decides tag.name.prefix (word_text word.Xmlns)).1 prefix') ∙ well_named.0))
+        absurd (true≢false (sym ((bytes_eq-Decides tag.name.prefix (word_text word.Xmlns)).1 (ap (λ (n : Name). n.prefix) (sym same) ∙ prefix)) ∙ well_named.0))
     tag_apart f (in_rest p c name as' _ to (cut past)) =
         let x = tag_front p c name as' to in let l = next_within p j c empty x.0 x.2 in absurd (omega (arith, run_end_le is_space src p))
     tag_apart f (in_rest p c name as' _ to (no_rest below past)) = let x = tag_front p c name as' to in let l = next_within p j c empty x.0 x.2 in absurd (omega arith)
@@ -212,10 +208,9 @@ module _ (context : Values) (O : Inclusion) (agrees : AgreesValue context.entiti
     tag_apart f (in_rest p c name as' _ to (too_many_pairs d k a spaces is' declares' may once many)) =
         let over = more_pairs_counted s.stack s.done (namespace_decls_of as' ++ namespace_decl_of a ∷ []) many in
         let x = tag_front p c name as' to in
-        let known = distinct_pairs (pairs_so_far s.stack s.done) in
         let there = declared_there p k c d as' x.0 a x.1 x.2 spaces is' declares' in
         let split : tag.declarations ≡ namespace_decls_of as' ++ namespace_decl_of a ∷ [] ++ there.0 = there.1 ∙ sym (append_assoc (namespace_decls_of as') (namespace_decl_of a ∷ []) there.0) in
-        let more' = pairs_more known (namespace_decls_of as' ++ namespace_decl_of a ∷ []) there.0 in
+        let more' = pairs_more (distinct_pairs (pairs_so_far s.stack s.done)) (namespace_decls_of as' ++ namespace_decl_of a ∷ []) there.0 in
         grind arith
     tag_apart f (in_rest p c name as' _ to (too_many_attributes k x ends over)) =
         let same : length (plain_attributes_of as') ≡ length tag.attributes = ap (λ (t : Tag). length t.attributes) (same_tag p k c x name as' to ends) in

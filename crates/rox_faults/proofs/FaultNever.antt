@@ -146,8 +146,7 @@ module _ (opens : ℕ → Inclusion) (es : List Entity) (all : OpensAt opens es)
     pub never : (kind : Bool) (source : List ℕ) (f : Fault) → FaultFrom opens es limit text kind PrologAt source f → IsOver W f
     never kind source f (misc_around q items _ (inl front) fits (in_one _ ill)) = let r = p.ahead q items front in absurd (misc_at text utf8 q p.start r.0 f r.1 root_at.2 ill)
     never kind source f (misc_around q items _ (inl front) fits (one_too_many k item is over)) =
-        let all' = join items (leaf item) in
-        let r = p.ahead k all' (p.on q k items (leaf item) front (an_item q k k item Nil is (no_misc k))) in
+        let r = p.ahead k (join items (leaf item)) (p.on q k items (leaf item) front (an_item q k k item Nil is (no_misc k))) in
         grind (arith, merge-more)
     never kind source f (no_root items front fits) = let r = p.ahead (length text) items front in let l = before_end text utf8 (length text) p.start r.0 r.1 root_at.0 in absurd (omega arith)
     never kind source f (unknown_ahead q items front fits below no_space no_less) = let r = p.ahead q items front in absurd (other_at text utf8 q p.start r.0 r.1 root_at.0 no_space no_less)

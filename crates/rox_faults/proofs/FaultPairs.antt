@@ -48,8 +48,7 @@ module _ (src : List ℕ) (utf8 : IsUtf8 src) where
       grind (arith, chars_stand, value_cut)
   pair_apart i n v e j q name t f named eq literal (closing name' m w is eq' quote chars) lack =
       let same : w ≡ v = eq_one src m n w v (one_qname src i m n name' name is named).1 eq' eq in
-      let to_end : value_end src v ≡ e = literal_complete src v e j literal in
-      byte_stands src (byte src v) (value_end src v) f (omega arith) (ap (byte src) to_end ∙ literal_closes src v e j literal)
+      byte_stands src (byte src v) (value_end src v) f (omega arith) (ap (byte src) (literal_complete src v e j literal) ∙ literal_closes src v e j literal)
       (subst (λ (w : ℕ). IsMissing src (value_end src w) (a_byte (byte src w)) f) same lack)
 
   -- A pair ends in one place.
@@ -81,15 +80,13 @@ module _ (src : List ℕ) (utf8 : IsUtf8 src) where
       let same : v ≡ p = one_may word.Version q v p one may in
       let m = may_is word.Encoding p e here (subst (λ (v : ℕ). MayBePair (word_text word.Encoding) src v e) same two) in (m.0, m.1, m.2, m.3, m.4, m.5, m.6, λ z. cc z)
   pair_there i j p text (xml_decl e s opens (standalone v _ (encoding _ _ (version _) one) two) three closes) (standalone w _ (encoding q _ (version _) may) may') here =
-      let same : v ≡ w = one_may word.Version q v w one may in
-      let same' : e ≡ p = one_may word.Encoding w e p (subst (λ (v : ℕ). MayBePair (word_text word.Encoding) src v e) same two) may' in
+      let same' : e ≡ p = one_may word.Encoding w e p (subst (λ (v : ℕ). MayBePair (word_text word.Encoding) src v e) (one_may word.Version q v w one may) two) may' in
       let m = may_is word.Standalone p s here (subst (λ (e : ℕ). MayBePair (word_text word.Standalone) src e s) same' three) in (m.0, m.1, m.2, m.3, m.4, m.5, m.6, λ z. subst (λ (l : ℕ). at word.PIEnd src l ≡ true) (sym m.7) closes)
 
   -- Where the last one begins.
   last_begins : (i p q : ℕ) → DeclarationTo src i (word_text word.Standalone) p → DeclarationTo src i (word_text word.Standalone) q → p ≡ q
   last_begins i p q (standalone v _ (encoding a _ (version _) one) two) (standalone w _ (encoding b _ (version _) may) may') =
-      let same : v ≡ w = one_may word.Version a v w one may in
-      one_may word.Encoding w p q (subst (λ (v : ℕ). MayBePair (word_text word.Encoding) src v p) same two) may'
+      one_may word.Encoding w p q (subst (λ (v : ℕ). MayBePair (word_text word.Encoding) src v p) (one_may word.Version a v w one may) two) may'
 
   -- In the declaration: rows 21 to 25.
   pub declaration_apart : (i j q : ℕ) (t : DueItem) (f : Fault) → IsXmlDecl src i j → DueInXmlDecl src i q t → IsMissing src q t f → ⊥
@@ -108,6 +105,5 @@ module _ (src : List ℕ) (utf8 : IsUtf8 src) where
       let same : there.4 ≡ pair.end = one_pair p there.1 there.2 there.3 there.4 pair.name_end pair.first_quote pair.last_quote pair.end there.0 pair.name there.5 pair.is_written in
       word_stands src expected.PIEnd (spaces_end src there.4) f (there.7 refl) (subst (λ (l : ℕ). IsMissing src (spaces_end src l) (a_text expected.PIEnd) f) (sym same) lack)
   declaration_apart i j q t f (xml_decl e s opens to three closes) (due.DueInXmlDecl.its_end _ to' none) lack =
-      let first : e ≡ q = last_begins i e q to to' in
-      let last : s ≡ q = may_not word.Standalone q s none (subst (λ (e : ℕ). MayBePair (word_text word.Standalone) src e s) first three) in
+      let last : s ≡ q = may_not word.Standalone q s none (subst (λ (e : ℕ). MayBePair (word_text word.Standalone) src e s) (last_begins i e q to to') three) in
       word_stands src expected.PIEnd s f closes (subst (λ (l : ℕ). IsMissing src l (a_text expected.PIEnd) f) (sym last) lack)

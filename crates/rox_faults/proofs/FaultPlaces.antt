@@ -155,9 +155,7 @@ module _ (opens : ℕ → Inclusion) (es : List Entity) (limit : ℕ) (text : Li
     -- A character begins after `</`.
     end_cut : (i : ℕ) → at word.EndTagStart src i ≡ true → IsCharBoundary src (i + 2)
     end_cut i opens =
-        let bytes = end_bytes src i opens in
-        let e : i + 1 + 1 ≡ i + 2 = omega arith in
-        subst (IsCharBoundary src) e (cut_behind src (i + 1) 47 utf8 bytes.2 (omega arith) (omega arith))
+        subst (IsCharBoundary src) (omega arith) (cut_behind src (i + 1) 47 utf8 (end_bytes src i opens).2 (omega arith) (omega arith))
 
     -- An end tag of another name: row 7.
     closed_fails : (i n j openings_left : ℕ) (name : Name) (done : Forest Item) (stack : Open) (f : Fault) → is_content k stack ≡ true → open_around < depth_of stack → AreOpened src open_around stack → Here k open_around src (state i done stack openings_left)
@@ -191,8 +189,7 @@ module _ (opens : ℕ → Inclusion) (es : List Entity) (limit : ℕ) (text : Li
     pub tag_fails : (s : State) (e : Refusal) → TagBegins src s.at (is_content k s.stack) → byte src s.at ≡ 60 → IsValidState most s → Here k open_around src s → tag_step context src s ≡ Err e → Refuses es P src e
     unfolding tag_step
     tag_fails s e begins opens' fine place h =
-        let fits = fits_at s fine in
-        let few = (fits_few limit s.stack s.done fits).1 in
+        let few = (fits_few limit s.stack s.done (fits_at s fine)).1 in
         let cut = machine.cut_off_fault (is_main k) s.stack in
         bind_err (tag_at (tag_values es d k) cut (scope_of s.stack) (attributes_so_far s.stack s.done) (distinct_pairs (pairs_so_far s.stack s.done)) src s.at s.openings_left) _ e h
         (λ bad. by_kind (tag_at_fails opens es values texts d k deep src utf8 (place_of s) s.openings_left few e opens' bad))
@@ -372,9 +369,7 @@ module _ (opens : ℕ → Inclusion) (es : List Entity) (limit : ℕ) (text : Li
     pub drive_fails : (n : ℕ) (s : State) (e : Refusal) → (is_root s.stack ≡ false → Here 0 0 text s) → IsValidState most s → IsCharBoundary text s.at → AreOpened text 0 s.stack → length text ≤ s.at + n
         → drive (context_at limit es most_deep 0 0) n text s ≡ Err e → Refuses es P text e
     unfolding drive
-    drive_fails zero s e place fine cut opened enough h =
-        chosen (is_root s.stack) _ _ _ h (λ at_root h. no_fault _ e h)
-        (λ inner h. refuses_here es P text fault.UnclosedRootNode e (cc h) (ends_open s.at s.openings_left s.done s.stack inner (omega arith) (place inner) fine))
+    drive_fails zero s e place fine cut opened enough h = grind (arith, ends_open)
     drive_fails (suc n) s e place fine cut opened enough h =
         chosen (is_root s.stack) _ _ _ h (λ at_root h. no_fault _ e h)
         (λ inner h. chosen (ltb s.at (length text)) _ _ _ h

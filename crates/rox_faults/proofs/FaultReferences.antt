@@ -48,12 +48,10 @@ module _ (b : ℕ) (none : NoPart b) (src : List ℕ) (utf8 : IsUtf8 src) where
   name_apart : (i n j q : ℕ) → IsReference src i n j → i < q → q < j → byte src q ≡ b → ⊥
   name_apart i n j q r from below here =
       let l = (reference_parts r).name.longest in let next = (reference_parts r).next in let closes = (reference_parts r).closes in let opens = (reference_parts r).opens in let ascii = none.ascii in
-      let inside : i < length src = within src i (λ z. omega arith) in
       let inside' : n < length src = within src n (λ z. omega arith) in
-      let cut = IsCharBoundary-after_ascii src i utf8 inside (omega arith) in
+      let cut = IsCharBoundary-after_ascii src i utf8 (within src i (λ z. omega arith)) (omega arith) in
       let le = run_within is_name_char src (i + 1) q utf8 cut (omega arith) (omega arith) (omega arith) (ap is_name_char here ∙ none.no_name) in
-      let same : q ≡ n = omega arith in
-      none.no_semicolon (sym here ∙ ap (byte src) same ∙ closes)
+      none.no_semicolon (sym here ∙ ap (byte src) (omega arith) ∙ closes)
 
   -- So after its `&` a reference holds none.
   character_apart : (i c j q : ℕ) → IsCharacter src i c j → i < q → q < j → byte src q ≡ b → ⊥
@@ -122,8 +120,7 @@ module _ (es : List Entity) (main : Bool) (O : Inclusion) (src : List ℕ) (utf8
           | inr g ↦ elim (cases_eq q p) as (λ s. Begins es src Any q) [
             | inl same ↦ (
                 let found = declared (slice src (p + 1) n) b d one opens in
-                let here : Begins es src Any p = to_entity n j found.0 ref none found.1 in
-                subst (Begins es src Any) (sym same) here)
+                subst (Begins es src Any) (sym same) (to_entity n j found.0 ref none found.1))
             | inr apart ↦ elim (cases_lt q j) as (λ s. Begins es src Any q) [
               | inl l ↦ absurd (name_apart 38 amp_no_part src utf8 p n j q ref (omega arith) l amp)
               | inr g' ↦ parts_amp start stop j q d c more rest g' below amp
@@ -163,8 +160,7 @@ module _ (es : List Entity) (main : Bool) (O : Inclusion) (src : List ℕ) (utf8
         elim (cases_eq q i) as (λ s. Begins es src Given q) [
           | inl same ↦ (
               let found = declared (slice src (i + 1) n) b d u opens in
-              let here : Begins es src Given i = to_entity n k found.0 ref none found.1 in
-              subst (Begins es src Given) (sym same) here)
+              subst (Begins es src Given) (sym same) (to_entity n k found.0 ref none found.1))
           | inr apart ↦ elim (cases_lt q k) as (λ s. Begins es src Given q) [
             | inl l ↦ absurd (name_apart 38 amp_no_part src utf8 i n k q ref (omega arith) l amp)
             | inr g ↦ value_amp e k q d c w rest g below amp

@@ -1,5 +1,5 @@
 -- The refusal of a whole text, with a document type declaration or without.
-use Rattle.std.proofs.Common.{◌≡◌, ℕ, zero, suc, ◌+◌, ◌-◌, ◌≤◌, max, ◌==◌, Bool, true, false, nat_lt, List, [], ◌++◌, length, refl, sym, ap, ◌∙◌, subst, arith, inl}
+use Rattle.std.proofs.Common.{◌≡◌, ℕ, zero, suc, ◌+◌, ◌≤◌, max, ◌==◌, Bool, true, false, nat_lt, List, [], ◌++◌, length, refl, sym, ap, ◌∙◌, subst, arith, inl}
 use Rattle.std.specs.Prelude.{Result, Ok, Err}
 use Rattle.std.specs.Str.{IsUtf8, IsCharBoundary}
 use Rattle.std.proofs.lemmas.List.{append-nil}
@@ -16,7 +16,7 @@ use Rattle.rox_grammar.specs.Content.{IsElement}
 use Rattle.rox_grammar.specs.TextStart.{after_bom}
 use Rattle.rox_grammar.specs.Entities.{Entity, no_entities, Includes, most_deep, included_in_main}
 use Rattle.rox_grammar.specs.Doctype.{Asked, IsDoctype}
-use Rattle.rox_grammar.specs.Document.{Misc, no_misc, PrologTo}
+use Rattle.rox_grammar.specs.Document.{Misc, no_misc, PrologTo, Prolog}
 use Rattle.rox_theory.specs.ParseParts.{MayHaveDoctype}
 use Rattle.rox_grammar.specs.State.{root, FitsLimits}
 use Rattle.rox_grammar.specs.ContentPoints.{is_main}
@@ -43,7 +43,6 @@ use Rattle.rox_theory.proofs.FailedReadings.{bind_err, no_fault}
 use Rattle.rox_faults.proofs.FaultPoints.{Refuses, From, fine_fits}
 use Rattle.rox_faults.proofs.FaultWhole.{misc_append, misc_stops, declaration_fails, misc_fails, ahead_on, body_fails, finished_fails, no_texts, plain_values, plain_contents, plain_elements}
 use Rattle.rox_faults.proofs.FaultSubsets.{nothing_by, asks_by, Stands, Ended, closed, cut_off, Outcome, doctype_ends}
-use Rattle.rox_grammar.specs.Document.{Prolog}
 use Rattle.rox_theory.specs.ParseParts as parts_of
 use Rattle.rox_theory.proofs.ParseParts.{prolog_parts, parts_prolog}
 
@@ -58,13 +57,11 @@ only_by P r good bad = grind arith
 -- What a reference opens, by how many are open.
 pub values_at : (es : List Entity) → AreTexts es → (d k : ℕ) → d + k ≡ most_deep → AgreesValue es (opens_at es k) (value_opener es d (is_main k))
 values_at es texts d k deep =
-    let left : d ≡ most_deep - k = omega arith in
-    subst (λ (n : ℕ). AgreesValue es (Includes es n (is_main k)) (value_opener es d (is_main k))) left (values_agree es texts d (is_main k))
+    subst (λ (n : ℕ). AgreesValue es (Includes es n (is_main k)) (value_opener es d (is_main k))) (omega arith) (values_agree es texts d (is_main k))
 
 pub contents_at : (limit : ℕ) (es : List Entity) → AreTexts es → (d k : ℕ) → d + k ≡ most_deep → AgreesContent es limit (opens_at es k) (opener limit es d (is_main k))
 contents_at limit es texts d k deep =
-    let left : d ≡ most_deep - k = omega arith in
-    subst (λ (n : ℕ). AgreesContent es limit (Includes es n (is_main k)) (opener limit es d (is_main k))) left (openers_agree limit es texts d (is_main k))
+    subst (λ (n : ℕ). AgreesContent es limit (Includes es n (is_main k)) (opener limit es d (is_main k))) (omega arith) (openers_agree limit es texts d (is_main k))
 
 -- More of what is after a document type declaration.
 doctype_on : (src : List ℕ) (utf8 : IsUtf8 src) (asked : List Asked) (es : List Entity) (i p q : ℕ) (dtd : Bool) (nodes items : Forest Item) → dtd ≡ true → MayHaveDoctype src i p dtd nodes asked es → Misc src p q items
@@ -178,8 +175,7 @@ module _ (src : List ℕ) (utf8 : IsUtf8 src) (limit : ℕ) (allow : Bool) where
         result_by (λ r. Whole ((asked ++ []) ++ r.0, r.1)) (body limit e.entities src s) _
         (λ x main. only_by (λ r. Whole ((asked ++ []) ++ r.0, r.1)) (finished src x) (λ tops. tt)
         (λ f bad.
-        let is : (s, false) ≡ x = body_none e.entities s x far main in
-        let same : fault.NoRootNode ≡ f = finished_none s f far (subst (λ (x : State × Bool). finished src x ≡ Err f) (sym is) bad) in
+        let same : fault.NoRootNode ≡ f = finished_none s f far (subst (λ (x : State × Bool). finished src x ≡ Err f) (sym (body_none e.entities s x far main)) bad) in
         nothing_more asked (here f) (subst (λ (f : Fault). RefusalOf limit allow src asked src f) same ill)))
         (λ x bad. absurd (body_good e.entities s x far bad)))
         (λ f bad. absurd (misc_never (length src) e.state f past bad))
@@ -257,11 +253,10 @@ module _ (src : List ℕ) (utf8 : IsUtf8 src) (limit : ℕ) (allow : Bool) where
       let less : limit ≤ most = omega arith in
       let least : most ≤ max limit 1 = omega arith in
       let b = after_bom src in
-      let bom = bom_cut src utf8 in
       nothing_by Whole (prolog src b) _
       (λ i declared.
       let may = prolog_sound src utf8 b i declared in
-      let cut = prolog_cut src utf8 b i bom may in
+      let cut = prolog_cut src utf8 b i (bom_cut src utf8) may in
       let first = state i Nil root 255 in
       let start : IsValidState most first = record { nodes = omega arith; attributes = omega arith; pairs = omega arith; named = tt } in
       let ahead : PrologTo src i Nil = (i, may, no_misc i) in
@@ -269,10 +264,9 @@ module _ (src : List ℕ) (utf8 : IsUtf8 src) (limit : ℕ) (allow : Bool) where
       (λ s read.
       let m = misc_sound src utf8 (length src) limit most 255 i Nil s less cut start read in
       let s_is : s ≡ state s.at m.0 root 255 = m.2 in
-      let there : PrologTo src s.at m.0 = ahead_on src utf8 i s.at Nil m.0 ahead m.1 in
       let stops = misc_stops src utf8 (length src) limit 255 i Nil s cut (omega arith) read in
       subst (λ (t : State). Whole (whole.doctype limit allow src (record { state = t; entities = []; replies = replies }) >>> rest_of)) (sym s_is)
-      (doctype_whole s.at m.0 replies texts stops.3 (subst (IsValidState most) s_is m.3) there stops.0 stops.1 stops.2))
+      (doctype_whole s.at m.0 replies texts stops.3 (subst (IsValidState most) s_is m.3) (ahead_on src utf8 i s.at Nil m.0 ahead m.1) stops.0 stops.1 stops.2))
       (λ f bad.
       misc_fails src utf8 limit most less least f (PrologTo src) (ahead_on src utf8) (RefusalOf limit allow src [] src f) (λ p items point fits ill. without f (misc_around p items _ (inl point) fits (in_one f ill)))
       (λ p j items item point fits item_is many is. subst (RefusalOf limit allow src [] src) is (without fault.NodesLimitReached (misc_around p items _ (inl point) fits (one_too_many j item item_is many))))

@@ -17,7 +17,7 @@ use Rattle.rox_grammar.specs.Entities.{Replacement, Entity, text_of, Spends, no_
 use Rattle.rox_grammar.specs.Doctype.{Asked}
 use Rattle.rox_grammar.proofs.CountForms.{limits_counted}
 use Rattle.rox_grammar.specs.Document.{DocumentTo, Misc, no_misc, an_item, ParseOf, IsWithinLimits, Permits, PrologTo}
-use Rattle.rox_theory.specs.ParseParts.{MayHaveDoctype, doctype, no_doctype}
+use Rattle.rox_theory.specs.ParseParts.{MayHaveDoctype, doctype, no_doctype, ParseParts}
 use Rattle.rox_grammar.specs.State as grammar
 use Rattle.rox_grammar.specs.State.{root}
 use Rattle.rox_grammar.specs.ContentPoints.{is_main, MayOpen, RootBegins, ContentPoint, begins, goes, enters}
@@ -43,7 +43,6 @@ use Rattle.rox_faults.proofs.FaultInDoctype.{in_doctype_apart}
 use Rattle.rox_faults.proofs.FaultMisc.{misc_front, misc_at, before_end, other_at, one_misc}
 use Rattle.rox_faults.proofs.FaultWay.{OpensAt}
 use Rattle.rox_faults.proofs.FaultNever.{Parsed, never, fault_over, no_doctype_there}
-use Rattle.rox_theory.specs.ParseParts.{ParseParts}
 use Rattle.rox_theory.proofs.ParseParts.{document_parts, prolog_parts, parts}
 
 -- What is before a place.
@@ -215,8 +214,7 @@ module _ (limit : ℕ) (src : List ℕ) (utf8 : IsUtf8 src) (given : List Asked)
         let begun = one_misc src utf8 a.ahead.0 p.prolog.0 a.begun p.begun a.before p.before (one_declaration limit src utf8 given tree p a.ahead.0 a.ahead.1) a.ahead.2
         (doctype_stops src a.begun (begins_there src a.begun q true a.nodes asked es refl a.doctype)) p.prolog.2 (doctype_stops src p.begun (begins_here limit src utf8 given tree p)) in
         let r = doctype_front src utf8 a.begun p.begun q p.start true true a.nodes p.nodes asked given es p.entities refl refl begun.0 same a.doctype p.doctype root_stops.2 in
-        let whole : before_root ≡ join items r.0 = grind (arith, join_assoc) in
-        ((r.0, r.1, whole), r.3)
+        ((r.0, r.1, (grind (arith, join_assoc))), r.3)
 
     declared_parsed : Parsed (opens_at p.entities) limit (IsWithinLimits limit tree) src (Declared src asked p.entities)
     declared_parsed = grind (arith, declared_rest, declared_on, all_fine, same_whole)
@@ -225,9 +223,8 @@ module _ (limit : ℕ) (src : List ℕ) (utf8 : IsUtf8 src) (given : List Asked)
     behind_over : (es : List Entity) (source : List ℕ) (f : Fault) → FaultFrom (opens_at es) es limit src true (Declared src asked es) source f → IsOver (IsWithinLimits limit tree) f
     behind_over es source f ill =
         let front = front_of (opens_at es) es limit src true (Declared src asked es) source f ill in
-        let entities_are : es ≡ p.entities = (declared_rest es front.0 front.1 front.2).1 in
         never (opens_at p.entities) p.entities (declared_opens p.entities entities_texts) limit (IsWithinLimits limit tree) src utf8 (Declared src asked p.entities) declared_parsed true source f
-        (subst (λ (es : List Entity). FaultFrom (opens_at es) es limit src true (Declared src asked es) source f) entities_are ill)
+        (subst (λ (es : List Entity). FaultFrom (opens_at es) es limit src true (Declared src asked es) source f) ((declared_rest es front.0 front.1 front.2).1) ill)
 
 -- A refusal that is in a text that has a parse is that of a limit, and the parse is not within the limits, where what was asked
 -- until then had the answers that the parse has.

@@ -10,7 +10,7 @@ use Rattle.rox_grammar.specs.declared.fault.Expected.{Expected}
 use Rattle.rox_grammar.specs.declared.fault.Word.TheVariants as word
 use Rattle.rox_grammar.specs.declared.fault.Expected.TheVariants as expected
 use Rattle.rox_grammar.specs.declared.fault.Fault.TheVariants as fault
-use Rattle.rox_grammar.specs.FixedTexts.{word_text, at}
+use Rattle.rox_grammar.specs.FixedTexts.{word_text, at, double_dash}
 use Rattle.rox_grammar.specs.ExpectedTexts.{expected_text}
 use Rattle.rox_grammar.specs.Chars.{is_space, is_char, is_part_char, is_name_start, is_name_char}
 use Rattle.rox_grammar.specs.Runs.{run_end, begins}
@@ -19,13 +19,12 @@ use Rattle.rox_grammar.specs.Written.{Name}
 use Rattle.rox_grammar.specs.NameParts.{local_span}
 use Rattle.rox_grammar.specs.Names.{byte, slice, spaces_end, IsName, IsQName, unprefixed, prefixed, colon_first}
 use Rattle.rox_grammar.specs.Constructs.{AreChars}
-use Rattle.rox_grammar.specs.FixedTexts.{double_dash}
 use Rattle.rox_grammar.specs.References.{is_digit, is_hex_digit, number, bytes_end, character, entity_reference}
 use Rattle.rox_grammar.specs.Entities.{Replacement, Entity, text_of}
 use Rattle.rox_grammar.specs.Due.{a_byte, a_text, a_qname, a_name, chars_to, IsMissing, Misses, no_name, DueInText, DueInPI, DueInEnd}
 use Rattle.rox_grammar.specs.Due as due
 use Rattle.rox_grammar.specs.Faults.{SpanIs, spelled, InMisc, comment_lacks, double_dashes, a_declaration, instruction_lacks, InReferences, malformed, undeclared}
-use Rattle.rox_reading.specs.Lexical.{has_mark, byte_at, string_at, chars_up_to, text_to, qname_at, name_at}
+use Rattle.rox_reading.specs.Lexical.{has_mark, byte_at, text_to, qname_at, name_at}
 use Rattle.rox_reading.specs.Markup.{comment_at, instruction_at, cdata_at, end_tag_at}
 use Rattle.rox_reading.specs.Values.{Reference, number_at, name_reference_at, reference_at, entity_bit, reference_bit, expansion_at}
 use Rattle.rox_grammar.proofs.AtPlace.{mark_from_cut}
@@ -53,16 +52,7 @@ first w src i = mark_from (word_text w) src i
 text_fails : (w : Expected) (b : ℕ) (rest src : List ℕ) (i : ℕ) (f : Fault) → expected_text w ≡ b ∷ rest → b < 128 → IsUtf8 src → IsCharBoundary src i → text_to w src i ≡ Err f
     → IsMissing src i (chars_to (mark_from (expected_text w) src i)) f ⊎ (AreChars src i (mark_from (expected_text w) src i) × IsMissing src (mark_from (expected_text w) src i) (a_text w) f)
 unfolding text_to
-text_fails w b rest src i f is ascii utf8 cut h =
-    let e = mark_from (expected_text w) src i in
-    let le = mark_from_le (expected_text w) src i in
-    bind_err (chars_up_to e src i) _ f h
-    (λ bad. inl (chars_fails src i e f utf8 cut (mark_from_cut (expected_text w) src i (rw is (omega arith)) (rw is ascii) cut.0) le bad))
-    (λ text read h.
-    let c = chars_sound e src i text utf8 le read in
-    bind_err (string_at w src text.1) _ f h
-    (λ bad. inr (c.0, string_fails w src e f (rw c.2 at bad)))
-    (λ x read h. no_fault (text.0, x.1) f h))
+text_fails w b rest src i f is ascii utf8 cut h = grind (arith, mark_from_le, chars_fails, mark_from_cut, chars_sound, string_fails)
 
 -- A character begins after a fixed text whose last byte is ASCII.
 pub behind : (w : Word) (src : List ℕ) (i k b : ℕ) → IsUtf8 src → at w src i ≡ true → k < length (word_text w) → get_or (word_text w) k 0 ≡ b → 0 < b → b < 128 → IsCharBoundary src (i + k + 1)
@@ -87,11 +77,10 @@ module _ (src : List ℕ) (utf8 : IsUtf8 src) where
       (λ text read h.
       let s = text_sound expected.CommentEnd src (i + 4) text utf8 read in
       let e = first word.CommentEnd src (i + 4) in
-      let is_text : text.0 ≡ slice src (i + 4) e = s.2 in
       chosen (has_mark double_dash text.0 || byte text.0 (length text.0 - 1) == 45) _ _ _ h
       (λ ill h.
       let is : fault.InvalidComment i ≡ f = cc in
-      subst (InMisc src i) is (double_dashes e opens (refl, s.0, s.1) (dashes_before src (i + 4) e s.1 (rw is_text at ill))))
+      subst (InMisc src i) is (double_dashes e opens (refl, s.0, s.1) (dashes_before src (i + 4) e s.1 (rw s.2 at ill))))
       (λ fine h. no_fault _ f h))
 
   -- A processing instruction.
@@ -121,8 +110,7 @@ module _ (src : List ℕ) (utf8 : IsUtf8 src) where
       -- A character begins after the white space after the target.
       value_cut : (i n : ℕ) → at word.PIStart src i ≡ true → IsName src (i + 2) n → IsCharBoundary src (spaces_end src n)
       value_cut i n opens target =
-          let one : i + 1 + 1 ≡ i + 2 = omega arith in
-          let cut = subst (IsCharBoundary src) one (behind word.PIStart src i 1 63 utf8 opens (omega arith) refl (omega arith) (omega arith)) in
+          let cut = subst (IsCharBoundary src) (omega arith) (behind word.PIStart src i 1 63 utf8 opens (omega arith) refl (omega arith) (omega arith)) in
           run_cut is_space src n utf8 (subst (IsCharBoundary src) (sym target.longest) (run_cut is_name_char src (i + 2) utf8 cut))
 
   -- A CDATA section.
@@ -219,11 +207,10 @@ spells src i n name utf8 cut (prefixed _ k _ front colon is last) =
     let inside = qname_inside src i n _ utf8 cut (prefixed i k n front colon is last) in
     let some : i < k = rw (ncname_parts front).longest (part_some src i utf8 cut (ncname_parts front).starts (ncname_parts front).no_colon) in
     let le = run_end_le is_part_char src (k + 1) in let l = (ncname_parts is).longest in
-    let first : slice src i k ≡ byte src i ∷ slice src (i + 1) k = slice_cons src i k some (omega arith) in
     let whole : slice src i n ≡ slice src i k ++ (58 ∷ slice src (k + 1) n) =
     slice_split src (k - i) i k n (omega arith) (omega arith) inside
     ∙ ap (λ (r : List ℕ). slice src i k ++ r) (slice_cons src k n (omega arith) inside ∙ ap (λ (b : ℕ). b ∷ slice src (k + 1) n) colon) in
-    let some_prefix : bytes_eq (slice src i k) [] ≡ false = rw first refl in
+    let some_prefix : bytes_eq (slice src i k) [] ≡ false = rw (slice_cons src i k some (omega arith)) refl in
     let e : name_span (record { prefix = slice src i k; local = slice src (k + 1) n }) i n ≡ record { start = i; end = n } = rw some_prefix refl in
     let f : spelled (record { prefix = slice src i k; local = slice src (k + 1) n }) ≡ slice src i k ++ 58 ∷ slice src (k + 1) n = rw some_prefix refl in
     ap (λ (s : Span). slice src s.start s.end) e ∙ whole ∙ sym f

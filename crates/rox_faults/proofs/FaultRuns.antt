@@ -13,13 +13,12 @@ use Rattle.rox_grammar.specs.Written.{Item, Text, leaf}
 use Rattle.rox_grammar.specs.Names.{byte, slice}
 use Rattle.rox_grammar.specs.References.{IsReference, predefined, entity_reference}
 use Rattle.rox_grammar.specs.Content.{Inclusion, DataByte, is_verbatim, line_ends, piece, Part, last_part, IsCharacterData}
-use Rattle.rox_grammar.specs.RunParts.{Parts}
+use Rattle.rox_grammar.specs.RunParts.{Parts, PartsTo}
 use Rattle.rox_grammar.specs.Content as content
 use Rattle.rox_grammar.specs.Entities.{Replacement, Entity, text_of}
 use Rattle.rox_grammar.specs.WellNamed.{AreWellNamed}
 use Rattle.rox_grammar.specs.State.{Open, scope_of, depth_of, nodes_so_far, FitsLimits}
 use Rattle.rox_grammar.specs.ContentPoints.{is_content, is_main, a_run, RefersTo, RunTo, MayOpen, IsSpent, enters}
-use Rattle.rox_grammar.specs.RunParts.{PartsTo}
 use Rattle.rox_grammar.specs.Faults.{InReferences, InRun, no_char, end_mark, in_reference, too_many, in_run, too_many_nodes, too_many_pieces}
 use Rattle.rox_reading.specs.Lexical.{has_mark, chars_up_to}
 use Rattle.rox_reading.specs.Refusals.{Refusal}
@@ -139,7 +138,6 @@ module _ (opens : ℕ → Inclusion) (es : List Entity) (limit : ℕ) (text : Li
           stand opens es limit text declared PrologAt k open_around src s fault.NodesLimitReached place fits
           (too_many_nodes u.openings_left (place_of (state stop (join s.done items) s.stack u.openings_left)) (a_run stop s.openings_left u.openings_left items inner run (b.all u.openings_left (piece s.at stop false ss) last) named) (too_many_there limit s.stack (join s.done items) few many))
       by_end u b q ss next part (ends_entity _ n j t ref none to found) named few many =
-          let moves = reference_opens src q n j ref in
           stand opens es limit text declared PrologAt k open_around src s fault.NodesLimitReached place fits
           (too_many_pieces
           (record {
@@ -151,7 +149,7 @@ module _ (opens : ℕ → Inclusion) (es : List Entity) (limit : ℕ) (text : Li
             replacement = t;
             is_run = run;
             is_front = b.to q u.openings_left (piece s.at stop false ss) (last_part u.at u.openings_left ss part);
-            within_run = omega (arith, moves.2);
+            within_run = omega (arith, (reference_opens src q n j ref).2);
             refers = (slice src (q + 1) n, entity_reference n ref none, found);
           })
           inner named (too_many_there limit s.stack (join s.done (join b.front (piece s.at stop false ss))) few many))
@@ -160,15 +158,12 @@ module _ (opens : ℕ → Inclusion) (es : List Entity) (limit : ℕ) (text : Li
       piece_over : (u : State) (b : Begun u) (q : ℕ) (ss : List DataByte) (v : List ℕ) (next : Next) (f : Fault) → IsValidState most u → Part (is_main k) src q u.at ss → Ends es src stop q next → line_ends ss ≡ v
           → with_piece limit u s.at stop v ≡ Err f → P src f
       piece_over u b q ss v next f fine' part ends text bad =
-          let w = piece_fails limit u s.at stop v f bad in
           let item = Text s.at stop v false in
-          let many = item_over limit u stop item f w.1 in
+          let many = item_over limit u stop item f (piece_fails limit u s.at stop v f bad).1 in
           let done : join u.done (leaf item) ≡ join s.done (join b.front (piece s.at stop false ss)) = grind (arith, join_assoc) in
-          let named : AreWellNamed (scope_of s.stack) (join b.front (piece s.at stop false ss)) = grind (arith, named-join, front_named) in
           let few : AreFew s.stack (join s.done (join b.front (piece s.at stop false ss))) =
           subst (λ (o : Open). AreFew o (join s.done (join b.front (piece s.at stop false ss)))) b.stack (subst (AreFew u.stack) done (plain_few limit u item refl refl (fine_fits limit most u least fine'))) in
-          let over' : limit < nodes_so_far s.stack (join s.done (join b.front (piece s.at stop false ss))) = grind arith in
-          subst (P src) many.1 (by_end u b q ss next part ends named few over')
+          subst (P src) many.1 (by_end u b q ss next part ends (grind (arith, named-join, front_named)) few (grind arith))
 
       -- The parts after an opened text.
       after_fails : (u t : State) (b : Begun u) (q : ℕ) (ss : List DataByte) (next : Next) (more : State → Result State Refusal) (e : Refusal) → IsValidState most t → IsPiece u t s.at stop ss → Part (is_main k) src q u.at ss
@@ -180,12 +175,9 @@ module _ (opens : ℕ → Inclusion) (es : List Entity) (limit : ℕ) (text : Li
           let moves = reference_opens src q n j ref in
           let one = piece s.at stop false ss in
           let t_done : t.done ≡ join s.done (join b.front one) = is.done ∙ ap (λ (f : Forest Item). join f one) b.done ∙ join_assoc s.done b.front one in
-          let t_stack : t.stack ≡ s.stack = is.stack ∙ b.stack in
           let refers : RefersTo es src q j r = (name, entity_reference n ref none, found) in
           let to' : PartsTo (is_main k) (opens k) src s.at stop s.at q s.openings_left t.openings_left (join b.front one) =
           subst (λ (c : ℕ). PartsTo (is_main k) (opens k) src s.at stop s.at q s.openings_left c (join b.front one)) (sym is.openings_left) (b.to q u.openings_left one (last_part u.at u.openings_left ss part)) in
-          let named : AreWellNamed (scope_of s.stack) (join b.front one) = grind (arith, named_last) in
-          let below : q < stop = omega (arith, moves.2) in
           let run_to : RunTo es (is_main k) (opens k) src s.at s.openings_left =
           record {
             run_end = stop;
@@ -196,15 +188,15 @@ module _ (opens : ℕ → Inclusion) (es : List Entity) (limit : ℕ) (text : Li
             replacement = r;
             is_run = run;
             is_front = to';
-            within_run = below;
+            within_run = (omega (arith, moves.2));
             refers = refers;
           } in
           bind_err (opener limit es d (is_main k) r j t) _ e h
           (λ bad. opener_fails src j r name t e found fine' (λ spent. in_it (fault.EntityReferenceLoop j) (too_many run_to spent))
           (λ l may.
-          subst (λ (o : Open). At opens es limit text declared PrologAt (suc k) (depth_of o) r.source (state r.start t.done o l)) (sym t_stack)
+          subst (λ (o : Open). At opens es limit text declared PrologAt (suc k) (depth_of o) r.source (state r.start t.done o l)) (sym (is.stack ∙ b.stack))
           (subst (λ (f : Forest Item). At opens es limit text declared PrologAt (suc k) (depth_of s.stack) r.source (state r.start f s.stack l)) (sym t_done)
-          (enters k open_around s.openings_left l src (place_of s) run_to place inner named may))) bad)
+          (enters k open_around s.openings_left l src (place_of s) run_to place inner (grind (arith, named_last)) may))) bad)
           (λ v opened h.
           let o = agrees.sound most name r j t v less found fine' opened in
           let v_is = o.3 in
@@ -246,9 +238,8 @@ module _ (opens : ℕ → Inclusion) (es : List Entity) (limit : ℕ) (text : Li
         (λ bad. no_char f (chars_fails src s.at stop f utf8 cut (run_stops_cut src s.at within') le bad))
         (λ raw read h.
         let c = chars_sound stop src s.at raw utf8 le read in
-        let text : raw.0 ≡ slice src s.at stop = c.1 in
         chosen (has_mark (word_text word.CDataEnd) raw.0) _ _ _ h
-        (λ marked h. let is : fault.InvalidCharacterData stop ≡ f = cc in subst (InRun es k (opens k) src s.at s.openings_left) is (end_mark stop refl c.0 (run_marked src s.at stop (sym (ap (has_mark (word_text word.CDataEnd)) text) ∙ marked))))
+        (λ marked h. let is : fault.InvalidCharacterData stop ≡ f = cc in subst (InRun es k (opens k) src s.at s.openings_left) is (end_mark stop refl c.0 (run_marked src s.at stop (sym (ap (has_mark (word_text word.CDataEnd)) c.1) ∙ marked))))
         (λ fine h. no_fault _ f h))
 
     -- A run.
@@ -261,11 +252,10 @@ module _ (opens : ℕ → Inclusion) (es : List Entity) (limit : ℕ) (text : Li
         let raw = raw_sound src utf8 s.at x within' other read in
         chosen (is_verbatim x.0) _ _ _ h
         (λ plain h.
-        let plain' : is_verbatim (slice src s.at x.1) ≡ true = rw (raw.1) at plain in
         let item = Text s.at x.1 x.0 true in
         let parts : Parts (is_main k) (opens k) src s.at x.1 s.at s.openings_left s.openings_left (leaf item) =
         subst (λ (v : List ℕ). Parts (is_main k) (opens k) src s.at x.1 s.at s.openings_left s.openings_left (leaf (Text s.at x.1 v true))) (sym raw.1)
-        (plain_part (context_at limit es d k open_around) (opens k) agrees src utf8 s.at x.1 s.openings_left raw.0 plain') in
+        (plain_part (context_at limit es d k open_around) (opens k) agrees src utf8 s.at x.1 s.openings_left raw.0 (rw (raw.1) at plain)) in
         lifted_only (with_item limit s x.1 item) e h
         (λ f bad is. refuses_here es P src f e is (over opens es limit text declared PrologAt k open_around src s (with_leaf s x.1 item) f place fits (a_run x.1 s.openings_left s.openings_left (leaf item) inner raw.0 parts (tt, tt, tt)) (plain_few limit s item refl refl fits) bad)))
         (λ marked h.

@@ -1,40 +1,34 @@
 -- The names in each refusal of reading are texts of the source that it counts in: the main text, a replacement text or an answer.
 use Rattle.std.proofs.Common.{◌≡◌, ℕ, zero, suc, ◌+◌, ◌-◌, ◌<◌, ◌≤◌, ◌==◌, ◌||◌, max, not, Bool, true, false, cond, leb, ltb, List, [], length, refl, ap, subst, arith}
-use Rattle.std.specs.Prelude.{Result, Ok, Err, Option, Some, None, slice_index, nat_le}
-use Rattle.std.specs.List.{list_any}
+use Rattle.std.specs.Prelude.{Result, Ok, Err, Option, nat_le}
 use Rattle.std.specs.Str.{IsUtf8, IsCharBoundary}
 use Rattle.std.proofs.lemmas.Str.{IsCharBoundary-after_ascii}
-use Rattle.std.proofs.lemmas.Bool.{eqb-true, leb-false, not-false}
+use Rattle.std.proofs.lemmas.Bool.{eqb-true, not-false}
 use Rattle.rox_grammar.specs.declared.fault.Fault.{Fault}
 use Rattle.rox_grammar.specs.declared.fault.Word.{Word}
 use Rattle.rox_grammar.specs.declared.fault.Expected.{Expected}
 use Rattle.rox_grammar.specs.declared.fault.Word.TheVariants as word
 use Rattle.rox_grammar.specs.declared.fault.Expected.TheVariants as expected
 use Rattle.rox_grammar.specs.Spans.{IsTextSpan, NamesText}
-use Rattle.rox_grammar.specs.Chars.{is_space, is_name_start}
+use Rattle.rox_grammar.specs.Chars.{is_name_start}
 use Rattle.rox_grammar.specs.FixedTexts.{word_text, at}
 use Rattle.rox_grammar.specs.ExpectedTexts.{expected_text}
 use Rattle.rox_grammar.specs.Runs.{begins}
-use Rattle.rox_grammar.specs.Search.{stands, mark_from, byte_from}
+use Rattle.rox_grammar.specs.Search.{stands, byte_from}
 use Rattle.rox_grammar.specs.Forest.{Forest, Nil, join}
-use Rattle.rox_grammar.specs.Written.{Name, Tag, Item, Element, Text, Comment, PI, leaf}
-use Rattle.rox_grammar.specs.NameParts.{same_qname}
+use Rattle.rox_grammar.specs.Written.{Name, Tag, Item, Element, leaf}
 use Rattle.rox_grammar.specs.Names.{byte, spaces_end}
-use Rattle.rox_grammar.specs.FixedTexts.{double_dash}
-use Rattle.rox_grammar.specs.Content.{is_verbatim, literals, line_ends}
 use Rattle.rox_grammar.specs.TextStart.{after_bom}
 use Rattle.rox_grammar.specs.Entities.{Replacement, Entity, most_deep}
 use Rattle.rox_grammar.specs.Doctype.{Request, Asked}
-use Rattle.rox_grammar.specs.Counts.{distinct_pairs}
-use Rattle.rox_grammar.specs.State.{Open, root, inside, is_root, scope_of, nodes_so_far, attributes_so_far, pairs_so_far}
+use Rattle.rox_grammar.specs.State.{Open, root, inside, is_root, nodes_so_far}
 use Rattle.rox_reading.specs.Refusals.{Refusal, here, there, lifted, elsewhere}
 use Rattle.rox_reading.specs.State.{State, depth_of}
-use Rattle.rox_reading.specs.Lexical.{has_mark, byte_at, space_at, quote_at, name_at, string_at, chars_up_to, text_to, qname_at}
-use Rattle.rox_reading.specs.Markup.{comment_at, Instruction, instruction_at, cdata_at, EndTag, end_tag_at, pair_at, gap_at, pair_if, xml_decl_at}
+use Rattle.rox_reading.specs.Lexical.{byte_at, space_at, quote_at, name_at, string_at, text_to, qname_at}
+use Rattle.rox_reading.specs.Markup.{comment_at, instruction_at, cdata_at, EndTag, end_tag_at, pair_at, gap_at, pair_if, xml_decl_at}
 use Rattle.rox_reading.specs.Values.{Next, data_part, part_text, raw_character_data_at, ReadText, value_at}
-use Rattle.rox_reading.specs.Tags.{TagRead, tag_at}
 use Rattle.rox_reading.specs.Machine.{Context, counted, with_item, comment_step, instruction_step, cdata_step, with_piece, at_place, after_part, data_parts, character_data_step, cut_off_fault, opened_by, tag_step, name_span, closed_by, end_step, step, drive, text_ends, drive_text, budget, values_of, opener, main_text}
-use Rattle.rox_reading.specs.Doctype.{Reply, AreTextReplies, Asks, asks_nothing, ◌>>>◌, quoted_at, system_at, public_at, external_id_at, name_or_end_at, notation_at, Definition, definition_at, EntityHead, kind_at, entity_head_at, answer_text, Dtd, replied, defined, entity_step, skipped_declaration, with_state, subset_end, subset, external_id_if, doctype_head_at, doctype_step}
+use Rattle.rox_reading.specs.Doctype.{Reply, AreTextReplies, Asks, asks_nothing, ◌>>>◌, quoted_at, system_at, public_at, external_id_at, name_or_end_at, notation_at, Definition, definition_at, kind_at, entity_head_at, answer_text, Dtd, replied, defined, entity_step, skipped_declaration, with_state, subset_end, subset, external_id_if, doctype_head_at, doctype_step}
 use Rattle.rox_reading.specs.WholeText.{misc, body, finished, prolog, doctype, reading}
 use Rattle.rox_theory.specs.ValidState.{IsValidState, state}
 use Rattle.rox_theory.specs.Openers.{AreTexts}
@@ -85,10 +79,7 @@ module _ (src : List ℕ) where
   -- The text up to a mark.
   text_spans : (w : Expected) (i : ℕ) → FaultSpanned src (text_to w src i)
   unfolding text_to
-  text_spans w i =
-      let e = mark_from (expected_text w) src i in
-      spanned_bind src (λ (x : List ℕ × ℕ). Unit {0}) _ (chars_up_to e src i) _ (chars_spans src e i) (λ text read h.
-      spanned_bind src (λ (x : Unit {0} × ℕ). Unit {0}) _ (string_at w src text.1) _ (string_spans w text.1) (λ end read h. record { holds = tt }))
+  text_spans w i = grind (arith, chars_spans, string_spans)
 
   -- A qualified name.
   qname_faults : (i : ℕ) → FaultSpanned src (qname_at src i)
@@ -97,18 +88,12 @@ module _ (src : List ℕ) where
   -- A comment.
   comment_spans : (i : ℕ) → FaultSpanned src (comment_at src i)
   unfolding comment_at
-  comment_spans i =
-      spanned_bind src (λ (x : List ℕ × ℕ). Unit {0}) _ (text_to expected.CommentEnd src (i + 4)) _ (text_spans expected.CommentEnd (i + 4)) (λ text read h.
-      spanned_cond src _ (has_mark double_dash text.0 || slice_index text.0 (length text.0 - 1) == 45) _ _ (λ h. record { holds = tt }) (λ h. record { holds = tt }))
+  comment_spans i = grind (arith, text_spans)
 
   -- A processing instruction.
   instruction_spans : (i : ℕ) → FaultSpanned src (instruction_at src i)
   unfolding instruction_at
-  instruction_spans i =
-      spanned_cond src _ (stands (word_text word.XmlDeclStart) src i) _ _ (λ h. record { holds = tt })
-      (λ h. spanned_bind src (λ (x : List ℕ × ℕ). Unit {0}) _ (name_at src (i + 2)) _ (name_spans (i + 2)) (λ target read h.
-      spanned_bind src (λ (x : List ℕ × ℕ). Unit {0}) _ (text_to expected.PIEnd src (spaces_end src target.1)) _ (text_spans expected.PIEnd (spaces_end src target.1))
-      (λ value read h. record { holds = tt })))
+  instruction_spans i = grind (arith, name_spans, text_spans)
 
   -- A CDATA section.
   cdata_spans : (i : ℕ) → FaultSpanned src (cdata_at src i)
@@ -118,29 +103,17 @@ module _ (src : List ℕ) where
   -- A name and a value of the declaration.
   pair_spans : (i : ℕ) → FaultSpanned src (pair_at src i)
   unfolding pair_at
-  pair_spans i =
-      spanned_bind src (λ (x : Name × ℕ). Unit {0}) _ (qname_at src i) _ (qname_faults i) (λ name read h.
-      spanned_bind src (λ (x : Unit {0} × ℕ). Unit {0}) _ (byte_at 61 src (spaces_end src name.1)) _ (byte_spans 61 (spaces_end src name.1)) (λ equals read h.
-      spanned_bind src (λ (x : ℕ × ℕ). Unit {0}) _ (quote_at src (spaces_end src equals.1)) _ (quote_spans (spaces_end src equals.1)) (λ quote read h.
-      let e = byte_from (λ c. c == quote.0 || c == 60) src quote.1 in
-      spanned_bind src (λ (x : List ℕ × ℕ). Unit {0}) _ (chars_up_to e src quote.1) _ (chars_spans src e quote.1) (λ value read h.
-      byte_spans quote.0 value.1))))
+  pair_spans i = grind (arith, qname_faults, byte_spans, quote_spans, chars_spans)
 
   -- A gap after it.
   gap_spans : (i : ℕ) → FaultSpanned src (gap_at src i)
   unfolding gap_at
-  gap_spans i =
-      spanned_cond src _ (leb (length src) i) _ _ (λ h. record { holds = tt })
-      (λ h. spanned_cond src _ (is_space (byte src i)) _ _ (λ h. record { holds = tt })
-      (λ h. spanned_cond src _ (stands (word_text word.PIEnd) src i) _ _ (λ h. record { holds = tt }) (λ h. record { holds = tt })))
+  gap_spans i = grind arith
 
   -- Both, or none.
   pair_if_spans : (w : Word) (i : ℕ) → FaultSpanned src (pair_if w src i)
   unfolding pair_if
-  pair_if_spans w i =
-      spanned_cond src _ (stands (word_text w) src i) _ _
-      (λ h. spanned_bind src (λ (x : Unit {0} × ℕ). Unit {0}) _ (pair_at src i) _ (pair_spans i) (λ x read h. gap_spans x.1))
-      (λ h. record { holds = tt })
+  pair_if_spans w i = grind (arith, pair_spans, gap_spans)
 
   -- The last pair, or none.
   last_spans : (i : ℕ) → FaultSpanned src (cond (stands (word_text word.Standalone) src i) (pair_at src i) (Ok (tt, i)))
@@ -149,64 +122,42 @@ module _ (src : List ℕ) where
   -- The declaration.
   declaration_spans : (i : ℕ) → FaultSpanned src (xml_decl_at src i)
   unfolding xml_decl_at
-  declaration_spans i =
-      let v = spaces_end src (i + 5) in
-      spanned_cond src _ (stands (word_text word.Version) src v) _ _
-      (λ h. spanned_bind src (λ (x : Unit {0} × ℕ). Unit {0}) _ (pair_if word.Version src v) _ (pair_if_spans word.Version v) (λ version read h.
-      spanned_bind src (λ (x : Unit {0} × ℕ). Unit {0}) _ (pair_if word.Encoding src version.1) _ (pair_if_spans word.Encoding version.1) (λ encoding read h.
-      spanned_bind src (λ (x : Unit {0} × ℕ). Unit {0}) _ _ _ (last_spans encoding.1) (λ standalone read h.
-      string_spans expected.PIEnd (spaces_end src standalone.1)))))
-      (λ h. record { holds = tt })
+  declaration_spans i = grind (arith, pair_if_spans, last_spans, string_spans)
 
   -- The declaration, if it is here.
   prolog_spans : (i : ℕ) → FaultSpanned src (prolog src i)
   unfolding prolog
-  prolog_spans i =
-      spanned_cond src _ (at word.XmlDeclStart src i) _ _
-      (λ h. spanned_bind src (λ (x : Unit {0} × ℕ). Unit {0}) _ (xml_decl_at src i) _ (declaration_spans i) (λ x read h. record { holds = tt }))
-      (λ h. record { holds = tt })
+  prolog_spans i = grind (arith, declaration_spans)
 
   -- The end of the text.
   finished_spans : (x : State × Bool) → FaultSpanned src (finished src x)
   unfolding finished
-  finished_spans (s, some) =
-      spanned_cond src _ (ltb s.at (length src)) _ _ (λ h. record { holds = tt }) (λ h. spanned_cond src _ some _ _ (λ h. record { holds = tt }) (λ h. record { holds = tt }))
+  finished_spans (s, some) = grind arith
 
   -- ---- the document type declaration
 
   -- White space.
   space_spans : (i : ℕ) → FaultSpanned src (space_at src i)
   unfolding space_at
-  space_spans i =
-      spanned_cond src _ (leb (length src) i) _ _ (λ h. record { holds = tt }) (λ h. spanned_cond src _ (is_space (byte src i)) _ _ (λ h. record { holds = tt }) (λ h. record { holds = tt }))
+  space_spans i = grind arith
 
   -- A literal.
   quoted_spans : (i : ℕ) → FaultSpanned src (quoted_at src i)
   unfolding quoted_at
-  quoted_spans i =
-      spanned_bind src (λ (x : ℕ × ℕ). Unit {0}) _ (quote_at src i) _ (quote_spans i) (λ quote read h.
-      let e = byte_from (λ c. c == quote.0) src quote.1 in
-      spanned_bind src (λ (x : Unit {0} × ℕ). Unit {0}) _ (byte_at quote.0 src e) _ (byte_spans quote.0 e) (λ x read h. record { holds = tt }))
+  quoted_spans i = grind (arith, quote_spans, byte_spans)
 
   system_spans : (i : ℕ) → FaultSpanned src (system_at src i)
   unfolding system_at
-  system_spans i =
-      spanned_bind src (λ (x : Unit {0} × ℕ). Unit {0}) _ (space_at src (i + 6)) _ (space_spans (i + 6)) (λ s read h.
-      spanned_bind src (λ (x : List ℕ × ℕ). Unit {0}) _ (quoted_at src s.1) _ (quoted_spans s.1) (λ uri read h. record { holds = tt }))
+  system_spans i = grind (arith, space_spans, quoted_spans)
 
   public_spans : (i : ℕ) → FaultSpanned src (public_at src i)
   unfolding public_at
-  public_spans i =
-      spanned_bind src (λ (x : Unit {0} × ℕ). Unit {0}) _ (space_at src (i + 6)) _ (space_spans (i + 6)) (λ p read h.
-      spanned_bind src (λ (x : List ℕ × ℕ). Unit {0}) _ (quoted_at src p.1) _ (quoted_spans p.1) (λ id read h.
-      spanned_bind src (λ (x : Unit {0} × ℕ). Unit {0}) _ (space_at src id.1) _ (space_spans id.1) (λ s read h.
-      spanned_bind src (λ (x : List ℕ × ℕ). Unit {0}) _ (quoted_at src s.1) _ (quoted_spans s.1) (λ uri read h. record { holds = tt }))))
+  public_spans i = grind (arith, space_spans, quoted_spans)
 
   -- An external id.
   external_id_spans : (i : ℕ) → FaultSpanned src (external_id_at src i)
   unfolding external_id_at
-  external_id_spans i =
-      spanned_cond src _ (at word.System src i) _ _ (λ h. system_spans i) (λ h. spanned_cond src _ (at word.Public src i) _ _ (λ h. public_spans i) (λ h. record { holds = tt }))
+  external_id_spans i = grind (arith, system_spans, public_spans)
 
   name_or_end_spans : (i : ℕ) → FaultSpanned src (name_or_end_at src i)
   unfolding name_or_end_at
@@ -215,54 +166,29 @@ module _ (src : List ℕ) where
   -- A notation.
   notation_spans : (parameter : Bool) (i : ℕ) → FaultSpanned src (notation_at parameter src i)
   unfolding notation_at
-  notation_spans parameter i =
-      spanned_cond src _ parameter _ _ (λ h. record { holds = tt })
-      (λ h. spanned_cond src _ (at word.NData src (spaces_end src i)) _ _
-      (λ h. spanned_bind src (λ (x : Unit {0} × ℕ). Unit {0}) _ (space_at src (spaces_end src i + 5)) _ (space_spans (spaces_end src i + 5)) (λ s read h.
-      spanned_bind src (λ (x : List ℕ × ℕ). Unit {0}) _ (name_or_end_at src s.1) _ (name_or_end_spans s.1) (λ name read h. record { holds = tt })))
-      (λ h. record { holds = tt }))
+  notation_spans parameter i = grind (arith, space_spans, name_or_end_spans)
 
   -- What an entity is declared as.
   definition_spans : (parameter : Bool) (i : ℕ) → FaultSpanned src (definition_at parameter src i)
   unfolding definition_at
-  definition_spans parameter i =
-      spanned_cond src _ (leb (length src) i) _ _ (λ h. record { holds = tt })
-      (λ h. spanned_cond src _ (byte src i == 34 || byte src i == 39) _ _
-      (λ h. spanned_bind src (λ (x : List ℕ × ℕ). Unit {0}) _ (quoted_at src i) _ (quoted_spans i) (λ x read h. record { holds = tt }))
-      (λ h. spanned_cond src _ (byte src i == 83 || byte src i == 80) _ _
-      (λ h. spanned_bind src (λ (x : Request × ℕ). Unit {0}) _ (external_id_at src i) _ (external_id_spans i) (λ x read h.
-      spanned_bind src (λ (y : Unit {0} × ℕ). Unit {0}) _ (notation_at parameter src x.1) _ (notation_spans parameter x.1) (λ y read h. record { holds = tt })))
-      (λ h. record { holds = tt })))
+  definition_spans parameter i = grind (arith, quoted_spans, external_id_spans, notation_spans)
 
   kind_spans : (i : ℕ) → FaultSpanned src (kind_at src i)
   unfolding kind_at
-  kind_spans i =
-      spanned_cond src _ (byte src i == 37) _ _
-      (λ h. spanned_bind src (λ (x : Unit {0} × ℕ). Unit {0}) _ (space_at src (i + 1)) _ (space_spans (i + 1)) (λ s read h. record { holds = tt }))
-      (λ h. record { holds = tt })
+  kind_spans i = grind (arith, space_spans)
 
   entity_head_spans : (i : ℕ) → FaultSpanned src (entity_head_at src i)
   unfolding entity_head_at
-  entity_head_spans i =
-      spanned_bind src (λ (x : Unit {0} × ℕ). Unit {0}) _ (space_at src (i + 8)) _ (space_spans (i + 8)) (λ k read h.
-      spanned_bind src (λ (x : Bool × ℕ). Unit {0}) _ (kind_at src k.1) _ (kind_spans k.1) (λ kind read h.
-      spanned_bind src (λ (x : List ℕ × ℕ). Unit {0}) _ (name_at src kind.1) _ (name_spans kind.1) (λ name read h.
-      spanned_bind src (λ (x : Unit {0} × ℕ). Unit {0}) _ (space_at src name.1) _ (space_spans name.1) (λ d read h. record { holds = tt }))))
+  entity_head_spans i = grind (arith, space_spans, kind_spans, name_spans)
 
   external_id_if_spans : (i : ℕ) → FaultSpanned src (external_id_if src i)
   unfolding external_id_if
-  external_id_if_spans i =
-      spanned_cond src _ (at word.System src i || at word.Public src i) _ _
-      (λ h. spanned_bind src (λ (x : Request × ℕ). Unit {0}) _ (external_id_at src i) _ (external_id_spans i) (λ x read h. record { holds = tt }))
-      (λ h. record { holds = tt })
+  external_id_if_spans i = grind (arith, external_id_spans)
 
   -- From `<!DOCTYPE`, up to `[` or `>`.
   doctype_head_spans : (i : ℕ) → FaultSpanned src (doctype_head_at src i)
   unfolding doctype_head_at
-  doctype_head_spans i =
-      spanned_bind src (λ (x : Unit {0} × ℕ). Unit {0}) _ (space_at src (i + 9)) _ (space_spans (i + 9)) (λ n read h.
-      spanned_bind src (λ (x : List ℕ × ℕ). Unit {0}) _ (name_or_end_at src n.1) _ (name_or_end_spans n.1) (λ name read h.
-      spanned_bind src (λ (x : Unit {0} × ℕ). Unit {0}) _ (external_id_if src (spaces_end src name.1)) _ (external_id_if_spans (spaces_end src name.1)) (λ x read h. record { holds = tt })))
+  doctype_head_spans i = grind (arith, space_spans, name_or_end_spans, external_id_if_spans)
 
 -- ---- states
 
@@ -282,22 +208,17 @@ module _ (src : List ℕ) (bottom : Open) where
   -- A comment.
   comment_step_spans : (limit : ℕ) (s : State) → StateNamed s → Spanned State src StateNamed (comment_step limit src s)
   unfolding comment_step
-  comment_step_spans limit s named =
-      spanned_bind src (λ (x : List ℕ × ℕ). Unit {0}) _ (comment_at src s.at) _ (comment_spans src s.at) (λ x read h. item_spans limit s x.1 (Comment s.at x.1 x.0) named)
+  comment_step_spans limit s named = grind (arith, comment_spans)
 
   -- A processing instruction.
   instruction_step_spans : (limit : ℕ) (s : State) → StateNamed s → Spanned State src StateNamed (instruction_step limit src s)
   unfolding instruction_step
-  instruction_step_spans limit s named =
-      spanned_bind src (λ (x : Instruction × ℕ). Unit {0}) _ (instruction_at src s.at) _ (instruction_spans src s.at) (λ x read h.
-      item_spans limit s x.1 (PI s.at x.1 x.0.target x.0.value) named)
+  instruction_step_spans limit s named = grind (arith, instruction_spans)
 
   -- A CDATA section.
   cdata_step_spans : (limit : ℕ) (s : State) → StateNamed s → Spanned State src StateNamed (cdata_step limit src s)
   unfolding cdata_step
-  cdata_step_spans limit s named =
-      spanned_bind src (λ (x : List ℕ × ℕ). Unit {0}) _ (cdata_at src s.at) _ (cdata_spans src s.at) (λ x read h.
-      item_spans limit s x.1 (Text s.at x.1 (line_ends (literals x.0)) (not (list_any (λ b. b == 13) x.0))) named)
+  cdata_step_spans limit s named = grind (arith, cdata_spans)
 
   -- Comments, processing instructions and white space.
   misc_spans : (n limit : ℕ) (s : State) → StateNamed s → Spanned State src StateNamed (misc limit n src s)
@@ -326,8 +247,7 @@ module _ (src : List ℕ) (bottom : Open) where
       → Spanned State src StateNamed (closed_by i name n j done stack openings_left)
   unfolding closed_by
   closed_spans i name n j done stack openings_left actual deep rests = absurd (omega arith)
-  closed_spans i name n j done stack openings_left actual deep (above start tag before up text more) =
-      spanned_cond src _ (same_qname tag.name name) _ _ (λ h. record { holds = more }) (λ h. record { holds = (text, actual) })
+  closed_spans i name n j done stack openings_left actual deep (above start tag before up text more) = grind arith
 
   -- The piece of a part.
   piece_spans : (limit : ℕ) (s : State) (i j : ℕ) (bs : List ℕ) → StateNamed s → Spanned State src StateNamed (with_piece limit s i j bs)
@@ -336,10 +256,7 @@ module _ (src : List ℕ) (bottom : Open) where
   -- The bytes of a run.
   raw_spans : (i : ℕ) → FaultSpanned src (raw_character_data_at src i)
   unfolding raw_character_data_at
-  raw_spans i =
-      let end = byte_from (λ c. c == 60) src i in
-      spanned_bind src (λ (x : List ℕ × ℕ). Unit {0}) _ (chars_up_to end src i) _ (chars_spans src end i) (λ raw read h.
-      spanned_cond src _ (has_mark (word_text word.CDataEnd) raw.0) _ _ (λ h. record { holds = tt }) (λ h. record { holds = tt }))
+  raw_spans i = grind (arith, chars_spans)
 
   -- The refusals of what a reference opens are told, and it leaves the open elements as they are.
   abbrev pub ContentTold : (Replacement → ℕ → State → Result State Refusal) → Type 0
@@ -365,11 +282,7 @@ module _ (src : List ℕ) (bottom : Open) where
     -- A run.
     run_step_told : (s : State) → StateNamed s → Told State src StateNamed (character_data_step context src s)
     unfolding character_data_step
-    run_step_told s named =
-        told_after src (λ (x : List ℕ × ℕ). Unit {0}) _ (raw_character_data_at src s.at) _ (raw_spans s.at) (λ x read h.
-        told_cond src _ (is_verbatim x.0) _ _
-        (λ h. told_lifted src StateNamed (with_item context.limit s x.1 (Text s.at x.1 x.0 true)) (item_spans context.limit s x.1 (Text s.at x.1 x.0 true) named))
-        (λ h. run_parts_told (length src) s.at x.1 s named))
+    run_step_told s named = grind (arith, raw_spans, run_parts_told)
 
     -- A qualified name, written with its colon or without.
     written_spans : (i : ℕ) (name : Name) (n : ℕ) → IsCharBoundary src i → qname_at src i ≡ Ok (name, n) → IsTextSpan src (name_span name i n)
@@ -378,35 +291,22 @@ module _ (src : List ℕ) (bottom : Open) where
     -- A character begins after `</`.
     end_cut : (i : ℕ) → byte src (i + 1) ≡ 47 → IsCharBoundary src (i + 2)
     end_cut i slash =
-        let e : i + 1 + 1 ≡ i + 2 = omega arith in
-        subst (IsCharBoundary src) e (IsCharBoundary-after_ascii src (i + 1) utf8 (within src (i + 1) (λ z. omega arith)) (omega arith))
+        subst (IsCharBoundary src) (omega arith) (IsCharBoundary-after_ascii src (i + 1) utf8 (within src (i + 1) (λ z. omega arith)) (omega arith))
 
     -- An end tag has a name of the source.
     end_tag_spans : (i : ℕ) → byte src (i + 1) ≡ 47 → Spanned (EndTag × ℕ) src (λ x. IsTextSpan src (name_span x.0.name (i + 2) x.0.name_end)) (end_tag_at src i)
     unfolding end_tag_at
-    end_tag_spans i slash =
-        spanned_bind src (λ (x : Name × ℕ). Unit {0}) _ (qname_at src (i + 2)) _ (qname_faults src (i + 2)) (λ name read h.
-        spanned_bind src (λ (x : Unit {0} × ℕ). Unit {0}) _ (byte_at 62 src (spaces_end src name.1)) _ (byte_spans src 62 (spaces_end src name.1)) (λ end closes h.
-        record { holds = written_spans (i + 2) name.0 name.1 (end_cut i slash) read }))
+    end_tag_spans i slash = grind (arith, qname_faults, byte_spans, written_spans, end_cut)
 
     -- An end tag.
     end_step_spans : (s : State) → byte src (s.at + 1) ≡ 47 → StateNamed s → Spanned State src StateNamed (end_step context src s)
     unfolding end_step
-    end_step_spans s slash named =
-        spanned_bind src (λ (x : EndTag × ℕ). IsTextSpan src (name_span x.0.name (s.at + 2) x.0.name_end)) _ (end_tag_at src s.at) _ (end_tag_spans s.at slash) (λ x read actual.
-        spanned_cond src _ (nat_le (depth_of s.stack) context.open_around) _ _ (λ h. record { holds = tt })
-        (λ deep. closed_spans s.at x.0.name x.0.name_end x.1 s.done s.stack s.openings_left actual (omega (arith, leb-false _ _ deep)) named))
+    end_step_spans s slash named = grind (arith, end_tag_spans, closed_spans)
 
     -- A start tag.
     tag_step_told : (s : State) → byte src s.at ≡ 60 → StateNamed s → Told State src StateNamed (tag_step context src s)
     unfolding tag_step
-    tag_step_told s opens' named =
-        let cut = cut_off_fault context.values.main s.stack in
-        let known = distinct_pairs (pairs_so_far s.stack s.done) in
-        told_bind src (λ (x : TagRead × ℕ). IsTextSpan src (name_span x.0.tag.name (s.at + 1) x.0.tag.name_end)) _
-        (tag_at context.values cut (scope_of s.stack) (attributes_so_far s.stack s.done) known src s.at s.openings_left) _
-        (tag_told context.values src utf8 values cut (scope_of s.stack) (attributes_so_far s.stack s.done) known s.at s.openings_left opens' (cut_off_spans context.values.main s.stack))
-        (λ x read name. told_lifted src StateNamed (opened_by context.limit s x.0.tag x.0.empty x.0.openings_left x.1) (opened_spans context.limit s x.0.tag x.0.empty x.0.openings_left x.1 name named))
+    tag_step_told s opens' named = grind (arith, tag_told, opened_spans)
 
     -- One construct of content.
     step_told : (s : State) → StateNamed s → Told State src StateNamed (step context src s)
@@ -484,11 +384,7 @@ module _ (src : List ℕ) where
   -- An answer.
   answer_told : (answer : Option (List ℕ)) → Told (Option Replacement) src (λ x. Unit {0}) (answer_text answer)
   unfolding answer_text
-  answer_told None = record { tells = tt }
-  answer_told (Some t) =
-      told_bind src (λ (x : Unit {0} × ℕ). Unit {0}) _ (elsewhere t (lifted (cond (at word.XmlDeclStart t (after_bom t)) (xml_decl_at t (after_bom t)) (Ok (tt, after_bom t))))) _
-      (told_elsewhere src t _ _ (told_lifted t _ _ (spanned_cond t _ (at word.XmlDeclStart t (after_bom t)) _ _ (λ h. declaration_spans t (after_bom t)) (λ h. record { holds = tt }))))
-      (λ x read h. record { tells = tt })
+  answer_told answer = grind (arith, declaration_spans)
 
   replied_told : (request : Request) (p : ℕ) (reply : Reply) → Told (Option Replacement) src (λ x. Unit {0}) (replied request p reply).1
   replied_told request p (Err message) = record { tells = tt }
@@ -500,11 +396,7 @@ module _ (src : List ℕ) where
   -- An entity.
   entity_told : (d : Dtd) → AtTop d → Told Dtd src AtTop (entity_step src d).1
   unfolding entity_step
-  entity_told d top =
-      asks_lifted src (λ (x : EntityHead × ℕ). Unit {0}) _ (entity_head_at src d.state.at) _ (entity_head_spans src d.state.at) (λ head read h.
-      asks_lifted src (λ (x : Definition × ℕ). Unit {0}) _ (definition_at head.0.parameter src head.1) _ (definition_spans src head.0.parameter head.1) (λ definition read h.
-      told_asks src (λ (x : Option Replacement × List Reply). Unit {0}) _ (defined definition.0 definition.1 d.replies) _ (defined_told definition.0 definition.1 d.replies) (λ text read h.
-      asks_lifted src (λ (x : Unit {0} × ℕ). Unit {0}) _ (byte_at 62 src (spaces_end src definition.1)) _ (byte_spans src 62 (spaces_end src definition.1)) (λ end read h. record { tells = top }))))
+  entity_told d top = grind (arith, entity_head_spans, definition_spans, defined_told, byte_spans)
 
   passed_told : (i : ℕ) (d : Dtd) → AtTop d → Told Dtd src AtTop (skipped_declaration i src d).1
   unfolding skipped_declaration
@@ -512,9 +404,7 @@ module _ (src : List ℕ) where
 
   end_told : (d : Dtd) → AtTop d → Told Dtd src AtTop (subset_end src d).1
   unfolding subset_end
-  end_told d top =
-      let e = spaces_end src (d.state.at + 1) in
-      asks_cond src _ (leb (length src) e) _ _ (λ h. record { tells = tt }) (λ h. asks_cond src _ (byte src e == 62) _ _ (λ h. record { tells = top }) (λ h. record { tells = tt }))
+  end_told d top = grind arith
 
   -- The items.
   subset_told : (n limit i : ℕ) (d : Dtd) → AtTop d → Told Dtd src AtTop (subset limit i n src d).1
@@ -536,22 +426,12 @@ module _ (src : List ℕ) where
 
   doctype_step_told : (limit : ℕ) (d : Dtd) → AtTop d → Told Dtd src AtTop (doctype_step limit src d).1
   unfolding doctype_step
-  doctype_step_told limit d top =
-      asks_lifted src (λ (x : Unit {0} × ℕ). Unit {0}) _ (doctype_head_at src d.state.at) _ (doctype_head_spans src d.state.at) (λ head read h.
-      asks_cond src _ (leb (length src) head.1) _ _ (λ h. record { tells = tt })
-      (λ h. asks_cond src _ (byte src head.1 == 62) _ _ (λ h. record { tells = top })
-      (λ h. asks_cond src _ (byte src head.1 == 91) _ _ (λ h. subset_told (length src) limit d.state.at (with_state d (at_place (head.1 + 1) d.state)) top) (λ h. record { tells = tt }))))
+  doctype_step_told limit d top = grind (arith, doctype_head_spans, subset_told)
 
   -- The document type declaration, and what follows it.
   doctype_told : (limit : ℕ) (allow : Bool) (d : Dtd) → AtTop d → Told Dtd src AtTop (doctype limit allow src d).1
   unfolding doctype
-  doctype_told limit allow d top =
-      asks_cond src _ (at word.DoctypeStart src d.state.at) _ _
-      (λ h. asks_cond src _ allow _ _
-      (λ h. told_asks src AtTop _ (doctype_step limit src d) _ (doctype_step_told limit d top) (λ e read top'.
-      asks_lifted src (λ (t : State). Rests src root t.stack) _ (misc limit (length src) src e.state) _ (misc_spans src root (length src) limit e.state top') (λ s read top''. record { tells = top'' })))
-      (λ h. record { tells = tt }))
-      (λ h. record { tells = top })
+  doctype_told limit allow d top = grind (arith, doctype_step_told, misc_spans)
 
   module _ (utf8 : IsUtf8 src) where
     -- The root element and what follows it.
@@ -615,8 +495,7 @@ module _ (src : List ℕ) where
     plain_told limit replies asked e h =
         told_refusal src (λ (t : Forest Item). Unit {0}) (reading limit false replies src).1 e
         (whole_told limit false replies (λ i s d declared first passed opens.
-        let before : Dtd = record { state = s; entities = []; replies = replies } in
-        let same : [] ≡ d.entities = ap (λ (d : Dtd). d.entities) (doctype_none src utf8 limit before d passed).1 in
+        let same : [] ≡ d.entities = ap (λ (d : Dtd). d.entities) (doctype_none src utf8 limit (record { state = s; entities = []; replies = replies }) d passed).1 in
         subst AreTexts same (λ name t found. cc found)))
         (ap (λ (x : Asks (Forest Item)). x.1) h)
 

@@ -1,6 +1,6 @@
 -- A document type declaration that fails, or is cut off by the end of the text: which of its rows stands, and what was asked until then.
 use Rattle.std.proofs.Common.{◌≡◌, ◌≢◌, ℕ, zero, suc, ◌+◌, ◌-◌, ◌<◌, ◌≤◌, ◌⊎◌, max, ◌==◌, ◌||◌, true, false, nat_lt, nat_le, List, [], ◌++◌, length, refl, sym, ap, ◌∙◌, subst, arith, inl, inr, append_assoc}
-use Rattle.std.specs.Prelude.{Result, Ok, Err, Option, Some, None}
+use Rattle.std.specs.Prelude.{Result, Ok, Err, Option, Some}
 use Rattle.std.specs.Str.{IsUtf8, IsCharBoundary}
 use Rattle.std.proofs.lemmas.List.{append-nil}
 use Rattle.std.proofs.lemmas.Bool.{cases_Bool, cond_both, eqb-true, eqb-false, leb-false, leb-true, ltb-true, ltb-false, or_cases, or_parts, true≢false}
@@ -18,16 +18,15 @@ use Rattle.rox_grammar.specs.Names.{byte, spaces_end}
 use Rattle.rox_grammar.specs.Content.{IsMisc, comment, instruction}
 use Rattle.rox_grammar.specs.TextStart.{after_bom}
 use Rattle.rox_grammar.specs.Entities.{Replacement, Entity}
-use Rattle.rox_grammar.specs.Doctype.{Request, Asked, IsDefinition, internal, external, Subset, no_more, space, an_item, skipped_declaration, an_entity, BeginsDoctype, doctype_begins, IsDoctype, no_subset, with_subset, entry, SubsetTo, subset_to}
+use Rattle.rox_grammar.specs.Doctype.{Request, Asked, IsDefinition, internal, external, Subset, no_more, space, an_item, skipped_declaration, an_entity, BeginsDoctype, doctype_begins, IsDoctype, no_subset, with_subset, entry, SubsetTo, subset_to, IsPassed}
 use Rattle.rox_grammar.specs.State.{root, nodes_so_far, FitsLimits}
 use Rattle.rox_grammar.specs.Due.{Misses, none_left, DueInXmlDecl}
 use Rattle.rox_faults.proofs.DueForms.{subset_or_end, no_end, no_subset_or_end}
 use Rattle.rox_grammar.specs.Due as dues
 use Rattle.rox_grammar.specs.Faults.{in_one, one_too_many}
 use Rattle.rox_grammar.specs.FaultsWithDoctype.{InDoctype, head_lacks, no_name, not_passed, in_entity, entity_open, entity_cut, in_answer, end_lacks, unknown, in_subset, in_miscs}
-use Rattle.rox_grammar.specs.Doctype.{IsPassed}
 use Rattle.rox_reading.specs.Lexical.{byte_at, space_at}
-use Rattle.rox_reading.specs.Markup.{comment_at, instruction_at, xml_decl_at}
+use Rattle.rox_reading.specs.Markup.{comment_at, instruction_at}
 use Rattle.rox_reading.specs.Refusals.{Refusal, here, there, refused, lifted}
 use Rattle.rox_reading.specs.State.{State}
 use Rattle.rox_reading.specs.Machine.{with_item, comment_step, instruction_step, at_place}
@@ -46,7 +45,7 @@ use Rattle.rox_theory.proofs.Leaves.{item_read, fine_there}
 use Rattle.rox_theory.proofs.Around.{ends_cut, misc_ends, misc_moves, misc_plain, comment_is, instruction_is}
 use Rattle.rox_theory.proofs.DoctypeParts.{declaration_parts, notation_past, asks_at, IsPassedOver, passed_first}
 use Rattle.rox_theory.proofs.DoctypeLemmas.{head_sound, definition_sound, doctype_head_sound, space_sound, name_or_end, if_sound}
-use Rattle.rox_theory.proofs.EntityLemmas.{either, answer_sound, EntityRead, EntityOutcome, entity_outcome, entity_moves, next_text}
+use Rattle.rox_theory.proofs.EntityLemmas.{answer_sound, EntityRead, EntityOutcome, entity_outcome, entity_moves, next_text}
 use Rattle.rox_theory.proofs.Subsets.{passed_moves}
 use Rattle.rox_theory.proofs.FailedReadings.{bind_err, no_fault, byte_fails}
 use Rattle.rox_faults.proofs.FaultRows.{comment_fails, instruction_fails}
@@ -77,14 +76,7 @@ outer_by P request j (Ok answer) rs g own ill good = grind arith
 answer_fails : (answer : Option (List ℕ)) (e : Refusal) → IsTextReply (Ok answer) → answer_text answer ≡ Err e
     → (t : List ℕ) × (f : Fault) × (answer ≡ Some t) × IsUtf8 t × (there t f ≡ e) × (at word.XmlDeclStart t (after_bom t) ≡ true) × Misses t (DueInXmlDecl t (after_bom t)) f
 unfolding answer_text
-answer_fails None e utf8 h = cc h
-answer_fails (Some t) e utf8 h =
-    elim (cases_Bool (at word.XmlDeclStart t (after_bom t))) as (λ s. (u : List ℕ) × (f : Fault) × (Some t ≡ Some u) × IsUtf8 u × (there u f ≡ e) × (at word.XmlDeclStart u (after_bom u) ≡ true) × Misses u (DueInXmlDecl u (after_bom u)) f) [
-      | inl is ↦ either (xml_decl_at t (after_bom t))
-          (λ x read. cc (rw (is, read) at h))
-          (λ f ill. let same : ◌≡◌ {A = Result (Option Replacement) Refusal} (Err (there t f)) (Err e) = rw (is, ill) at h in (t, f, refl, utf8, cc, is, declaration_fails t utf8 (after_bom t) f ill))
-      | inr none ↦ cc (rw none at h)
-    ]
+answer_fails answer e h k = grind (arith, declaration_fails)
 
 -- A byte that is required past the end.
 byte_past : (b : ℕ) (src : List ℕ) (i : ℕ) (f : Fault) → length src ≤ i → byte_at b src i ≡ Err f → fault.UnexpectedEndOfStream ≡ f
@@ -154,13 +146,11 @@ module _ (src : List ℕ) (utf8 : IsUtf8 src) (limit most : ℕ) (less : limit �
     outer_fails head request j answer text f is_head is replied' read ill =
         let begun = head_sound src d.state.at head opens is_head in
         let s = definition_sound head.0.parameter src head.1 (outer request, j) is in
-        let text_is : IsTextReply (Ok answer) = subst IsTextReply replied' (next_text d.replies texts).0 in
-        let gives = answer_sound answer text text_is read in
+        let gives = answer_sound answer text (subst IsTextReply replied' (next_text d.replies texts).0) read in
         elim s.2 as (λ _. In (asked0 ++ once request answer) src f) [
           | inl may ↦ in_subset d.state.at items asked0 _ _ _ to fits (entity_open begun.0 begun.1 head.1 j head.0.parameter (once request answer) text f begun.2 (external head.1 s.0 j request answer text s.1 may gives) (byte_fails 62 src (spaces_end src j) f ill))
           | inr cuts ↦ (
-              let past : length src ≤ spaces_end src j = omega (arith, notation_past cuts, run_end_le is_space src j) in
-              subst (In (asked0 ++ once request answer) src) (byte_past 62 src (spaces_end src j) f past ill)
+              subst (In (asked0 ++ once request answer) src) (byte_past 62 src (spaces_end src j) f (omega (arith, notation_past cuts, run_end_le is_space src j)) ill)
               (in_subset d.state.at items asked0 _ _ _ to fits (entity_cut j request answer text (asks_at head.0.parameter begun.0 begun.1 head.1 s.0 begun.2 s.1 (inr cuts)) (notation_past cuts) gives)))
         ]
 
@@ -170,13 +160,11 @@ module _ (src : List ℕ) (utf8 : IsUtf8 src) (limit most : ℕ) (less : limit �
     answer_stands head request j answer e is_head is replied' ill =
         let begun = head_sound src d.state.at head opens is_head in
         let s = definition_sound head.0.parameter src head.1 (outer request, j) is in
-        let text_is : IsTextReply (Ok answer) = subst IsTextReply replied' (next_text d.replies texts).0 in
-        let w = answer_fails answer e text_is ill in
+        let w = answer_fails answer e (subst IsTextReply replied' (next_text d.replies texts).0) ill in
         let t = w.0 in
-        let f = w.1 in
         subst (λ (a : Option (List ℕ)). Stands (asked0 ++ once request a) e) (sym w.2)
         (subst (Stands (asked0 ++ once request (Some t))) w.4
-        (in_subset d.state.at items asked0 _ _ _ to fits (in_answer j request t f (asks_at head.0.parameter begun.0 begun.1 head.1 s.0 begun.2 s.1 s.2) w.3 w.5 w.6)))
+        (in_subset d.state.at items asked0 _ _ _ to fits (in_answer j request t w.1 (asks_at head.0.parameter begun.0 begun.1 head.1 s.0 begun.2 s.1 s.2) w.3 w.5 w.6)))
 
     pub entity_fails : EntityFails asked0 (entity_step src d)
     unfolding entity_step
@@ -337,8 +325,7 @@ module _ (src : List ℕ) (utf8 : IsUtf8 src) (limit most : ℕ) (less : limit �
           where_it_is : (d.state.at < length src) → (spaces_end src d.state.at < length src) ⊎ (is_space (byte src (spaces_end src d.state.at - 1)) ≡ true)
           where_it_is inside =
               let k = spaces_end src d.state.at in
-              let Q : ℕ → Type 0 = λ m. (m ≡ k) ⊎ (is_space (byte src (k - 1)) ≡ true) in
-              let from = (over_spaces src Q d.state.at utf8 cut (λ m is q. grind arith)).1 (inl refl) in
+              let from = (over_spaces src (λ m. (m ≡ k) ⊎ (is_space (byte src (k - 1)) ≡ true)) d.state.at utf8 cut (λ m is q. grind arith)).1 (inl refl) in
               elim from as (λ _. (k < length src) ⊎ (is_space (byte src (k - 1)) ≡ true)) [ inl e ↦ inl (omega arith) | inr stands ↦ inr stands ]
 
       -- A declaration that is passed over.

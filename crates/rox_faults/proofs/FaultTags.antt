@@ -1,5 +1,5 @@
 -- A start tag that fails: which of its rows stands.
-use Rattle.std.proofs.Common.{◌≡◌, ◌≢◌, ℕ, zero, suc, ◌+◌, ◌-◌, ◌<◌, ◌≤◌, ◌⊎◌, ◌==◌, ◌||◌, Bool, true, false, not, eqb, ltb, leb, List, [], ◌∷◌, ◌++◌, length, refl, sym, ap, ◌∙◌, subst, arith, inl, inr, append_assoc, filter}
+use Rattle.std.proofs.Common.{◌≡◌, ◌≢◌, ℕ, zero, suc, ◌+◌, ◌<◌, ◌≤◌, ◌⊎◌, ◌==◌, ◌||◌, Bool, true, false, not, eqb, ltb, leb, List, [], ◌∷◌, ◌++◌, length, refl, sym, ap, ◌∙◌, subst, arith, inl, inr, append_assoc, filter}
 use Rattle.std.specs.Prelude.{Ok, Err, bytes_eq}
 use Rattle.std.specs.List.{list_any}
 use Rattle.std.specs.Str.{IsUtf8, IsCharBoundary}
@@ -18,7 +18,7 @@ use Rattle.rox_grammar.specs.NameParts.{local_span, prefix_span}
 use Rattle.rox_grammar.specs.Tree.{xml_uri, xmlns_uri, is_declared, listed, listable_of}
 use Rattle.rox_grammar.specs.Names.{byte, slice, spaces_end, IsQName, unprefixed, prefixed, colon_first}
 use Rattle.rox_grammar.specs.Constructs.{AreChars, IsEq, IsAttValue}
-use Rattle.rox_grammar.specs.Content.{Inclusion, IsAttribute, Attributes, no_more, one_more}
+use Rattle.rox_grammar.specs.Content.{Inclusion, IsAttribute, Attributes, no_more, one_more, attribute}
 use Rattle.rox_grammar.specs.WellNamed.{may_declare, is_known, same_expanded, may_name}
 use Rattle.rox_grammar.proofs.NamesApart.{DeclarableBehind, DistinctBehind, declarable_behind, are_declarable, are_distinct}
 use Rattle.rox_grammar.specs.Document.{attributes_in, most_attributes, most_pairs}
@@ -53,7 +53,6 @@ use Rattle.rox_faults.proofs.FaultRows.{local_holds, qname_inside}
 use Rattle.rox_faults.proofs.FaultPoints.{Refuses}
 use Rattle.rox_faults.proofs.FaultValues.{InPart, value_fails}
 use Rattle.rox_faults.proofs.StateCounts.{attributes_are, pairs_there, pairs_counted, more_pairs_there}
-use Rattle.rox_grammar.specs.Content.{attribute}
 use Rattle.rox_reading.proofs.Stretches.{range_length}
 
 -- A quote that is required.
@@ -73,13 +72,11 @@ name_holds : (src : List ℕ) (i n : ℕ) (name : Name) → IsUtf8 src → IsCha
 name_holds src i n name utf8 cut' (unprefixed _ _ is last) =
     let inside = qname_inside src i n _ utf8 cut' (unprefixed i n is last) in
     let le = run_end_le is_part_char src i in let l = (ncname_parts is).longest in
-    let z : i + 0 ≡ i = omega arith in
-    (ap (slice src i) z ∙ slice_nil src i, local_holds src (record { prefix = []; local = slice src i n }) i n refl (omega arith) inside)
+    (ap (slice src i) (omega arith) ∙ slice_nil src i, local_holds src (record { prefix = []; local = slice src i n }) i n refl (omega arith) inside)
 name_holds src i n name utf8 cut' (colon_first _ _ colon is last) =
     let inside = qname_inside src i n _ utf8 cut' (colon_first i n colon is last) in
     let le = run_end_le is_part_char src (i + 1) in let l = (ncname_parts is).longest in
-    let z : i + 0 ≡ i = omega arith in
-    (ap (slice src i) z ∙ slice_nil src i, local_holds src (record { prefix = []; local = slice src (i + 1) n }) (i + 1) n refl (omega arith) inside)
+    (ap (slice src i) (omega arith) ∙ slice_nil src i, local_holds src (record { prefix = []; local = slice src (i + 1) n }) (i + 1) n refl (omega arith) inside)
 name_holds src i n name utf8 cut' (prefixed _ k _ front colon is last) = grind (arith, qname_inside src i n _ utf8 cut' (prefixed i k n front colon is last), run_end_le, ncname_parts, range_length)
 
 -- An attribute whose name is where a character begins.
@@ -217,8 +214,7 @@ attributes_more main O src k d i j b c as' a (one_more _ m _ _ e _ first rest sp
 -- A character begins after an attribute.
 pub attribute_cut : (main : Bool) (O : Inclusion) (src : List ℕ) (utf8 : IsUtf8 src) (i j b c : ℕ) (a : Attribute) → IsAttribute main O src i j b c a → IsCharBoundary src j
 attribute_cut main O src utf8 i j b c a (attribute n v e name value (is_name, eq, literal) read) =
-    let next = literal.0.3 in
-    rw next (cut_behind src e (byte src v) utf8 (literal_closes src v e j literal) (omega arith) (omega arith))
+    rw literal.0.3 (cut_behind src e (byte src v) utf8 (literal_closes src v e j literal) (omega arith) (omega arith))
 
 module _ (opens : ℕ → Inclusion) (es : List Entity) (agrees : (d l : ℕ) → d + l ≡ most_deep → AgreesValue es (opens l) (value_opener es d (is_main l))) (texts : AreTexts es) (deeper level : ℕ) (deep : deeper + level ≡ most_deep)
     (src : List ℕ) (utf8 : IsUtf8 src) where

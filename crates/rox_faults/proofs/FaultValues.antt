@@ -18,7 +18,7 @@ use Rattle.rox_grammar.specs.Faults.{InReferences, InValue, in_reference, too_ma
 use Rattle.rox_grammar.specs.Faults as faults
 use Rattle.rox_reading.specs.Lexical.{chars_up_to}
 use Rattle.rox_reading.specs.Refusals.{Refusal}
-use Rattle.rox_reading.specs.Values.{Reference, reference_at, Bit, reference_bit, is_special, tested_bit, value_reference_at, stretch_at, value_bit_at, after_value_bit, value_text, value_at}
+use Rattle.rox_reading.specs.Values.{Reference, reference_at, Bit, reference_bit, tested_bit, value_reference_at, stretch_at, value_bit_at, after_value_bit, value_text, value_at}
 use Rattle.rox_reading.specs.Machine.{budget, value_opener}
 use Rattle.rox_theory.specs.Openers.{IsStop, AreTexts, AgreesValue}
 use Rattle.rox_theory.proofs.Basics.{chosen, run_end_le}
@@ -105,21 +105,15 @@ module _ (src : List ℕ) (utf8 : IsUtf8 src) (es : List Entity) (stop : ℕ) (l
       (λ bad. chars_ill p j f (next_bound src stop long stops p (omega arith)) (chars_fails src p j f utf8 cut (next_cut es src utf8 stop long closes stops stops_ascii p (omega arith)) le bad))
       (λ raw read h. chosen (eqb (byte (take stop src) j) 60) _ _ _ h
       (λ tag h.
-      let at' : byte (take stop src) j ≡ 60 = eqb-true _ _ tag in
       let below' : j < stop = grind (arith, get_or_past, length-take-le) in
       let is : fault.InvalidAttributeValue j ≡ f = cc in
-      subst (IllBit false p) is (is_less j refl le below' (sym (get_or-take stop src j 0 below') ∙ at')))
+      subst (IllBit false p) is (is_less j refl le below' (sym (get_or-take stop src j 0 below') ∙ (eqb-true _ _ tag))))
       (λ none h. no_fault _ f h))
 
   -- A bit.
   bit_fails : (main : Bool) (p : ℕ) (f : Fault) → p < stop → IsCharBoundary src p → value_bit_at main es src stop p ≡ Err f → IllBit main p f
   unfolding value_bit_at
-  bit_fails main p f below cut h =
-      chosen (eqb (byte src p) 38) _ _ _ h
-      (λ amp h. value_reference_fails main p f (eqb-true _ _ amp) h)
-      (λ none h. chosen (is_special (byte src p)) _ _ _ h
-      (λ special h. chosen (eqb (byte src p) 13) _ _ _ h (λ cr h. chosen (eqb (byte (take stop src) (p + 1)) 10) _ _ _ h (λ lf h. no_fault _ f h) (λ other h. no_fault _ f h)) (λ other h. no_fault _ f h))
-      (λ plain h. stretch_fails main p f below cut h))
+  bit_fails main p f below cut h = grind (arith, value_reference_fails, stretch_fails)
 
 module _ (opens : ℕ → Inclusion) (es : List Entity) (k : ℕ) (whole : List ℕ) (start end b : ℕ) where
   -- A fault that is in a part of the value.

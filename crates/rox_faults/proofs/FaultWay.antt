@@ -9,12 +9,11 @@ use Rattle.rox_grammar.specs.Constructs.{AreChars, IsCData, IsEnd}
 use Rattle.rox_grammar.specs.FixedTexts.{at}
 use Rattle.rox_grammar.specs.Content.{Inclusion, IsCharacterData, IsMisc, comment, instruction, Value, Content}
 use Rattle.rox_grammar.proofs.TagParts.{tag_parts}
-use Rattle.rox_grammar.specs.RunParts.{Parts}
+use Rattle.rox_grammar.specs.RunParts.{Parts, PartsTo}
 use Rattle.rox_grammar.specs.Entities.{Replacement, Entity, text_of, most_deep}
 use Rattle.rox_grammar.specs.State as grammar
 use Rattle.rox_grammar.specs.State.{Open, root, inside, is_root, depth_of}
 use Rattle.rox_grammar.specs.ContentPoints.{is_main, is_content, StepsOver, a_run as takes_run, a_section, a_misc, an_empty_tag, a_start_tag, an_end_tag, MayOpen, ContentPoint, begins, goes, enters}
-use Rattle.rox_grammar.specs.RunParts.{PartsTo}
 use Rattle.rox_reading.specs.State.{State}
 use Rattle.rox_reading.specs.Machine.{value_opener, opener}
 use Rattle.rox_reading.proofs.Forests.{join_assoc, merge-named}
@@ -192,16 +191,13 @@ module _ (opens : ℕ → Inclusion) (es : List Entity) (all : OpensAt opens es)
     takes_there t c (an_end_tag n j _ start x before up stack is) =
         let below : s.at < length src = let two = (end_bytes src s.at (end_parts is).opens).0 in omega arith in
         let there = there_by k open_around src (state_of s b) r an_end below (end_kind src s.at (end_parts is).opens) in
-        let same : there.3 ≡ up = ap (up_of root) (sym there.6 ∙ stack) in
-        let deep : open_around < depth_of up + 1 = subst (λ (up : Open). open_around < depth_of up + 1) same there.7 in
+        let deep : open_around < depth_of up + 1 = subst (λ (up : Open). open_around < depth_of up + 1) (ap (up_of root) (sym there.6 ∙ stack)) there.7 in
         subst (λ (o : Open). flat.StepsOver (is_main k) (opens k) src open_around (state s.at s.done o b) (state_of t b)) (sym stack) (flat.StepsOver.takes_end s.at n j b start x s.done before up deep is)
 
     -- And leads on along the way.
     goes_reached : (t : grammar.State) (c : ℕ) → StepsOver k (opens k) src s b t c → is_content k t.stack ≡ true → Reached k open_around src (state_of t c)
     goes_reached t c takes inner =
-        let takes' = takes_there t c takes in
-        let below = place_within k (opens k) src r.utf8 s t b c takes in
-        let same = one_step k open_around src (state_of s b) r (state_of t c) takes' below in
+        let same = one_step k open_around src (state_of s b) r (state_of t c) (takes_there t c takes) (place_within k (opens k) src r.utf8 s t b c takes) in
         grind (arith, takes_cut)
 
     -- The run that is there.
@@ -232,13 +228,12 @@ module _ (opens : ℕ → Inclusion) (es : List Entity) (all : OpensAt opens es)
         let run = there.0 in let found = there.1 in
         let x = all.content k c found.openings_left (slice src (p + 1) refers.0) found.opened found.opens in
         let text = all.texts (slice src (p + 1) refers.0) t refers.3 in
-        let content : Content false (opens (suc k)) t.source t.start (length t.source) q x.2 found.opened = grind arith in
         let done = join s.done front in
         let end : State = state (length t.source) (join done found.opened) s.stack x.2 in
         let split : join s.done run.items ≡ join (join done found.opened) found.rest = grind (arith, join_assoc) in
         let fine : W → IsValidState limit (state stop (join (join done found.opened) found.rest) s.stack run.openings_left) = λ w. subst (λ (f : Forest Item). IsValidState limit (state stop f s.stack run.openings_left)) split (run.fine w) in
         let named : AreNamed s.stack (join (join done found.opened) found.rest) = subst (λ (f : Forest Item). AreNamed s.stack f) split run.named in
-        let chain = flat.text_complete (opens (suc k)) t.source t.start q x.2 done found.opened s.stack content in
+        let chain = flat.text_complete (opens (suc k)) t.source t.start q x.2 done found.opened s.stack (grind arith) in
         record {
           d = most_deep - suc k;
           deep = let more = may_deep k c q may in omega arith;

@@ -1,14 +1,13 @@
 -- The fault of a whole text.
-use Rattle.std.proofs.Common.{◌≡◌, ◌≢◌, ℕ, zero, suc, ◌+◌, ◌<◌, ◌≤◌, max, ◌==◌, ◌||◌, Bool, true, false, leb, nat_le, nat_lt, List, [], ◌∷◌, length, drop, refl, sym, ap, ◌∙◌, subst, arith, inl, inr, true≢false}
+use Rattle.std.proofs.Common.{◌≡◌, ◌≢◌, ℕ, zero, suc, ◌+◌, ◌<◌, ◌≤◌, max, ◌==◌, ◌||◌, Bool, true, false, nat_le, nat_lt, List, [], ◌∷◌, length, drop, refl, sym, ap, ◌∙◌, subst, arith, inl, inr, true≢false}
 use Rattle.std.specs.Prelude.{Result, Ok, Err}
 use Rattle.std.specs.Str.{chars, IsUtf8, IsCharBoundary}
 use Rattle.std.proofs.lemmas.Str.{IsUtf8-drop, chars-encodes}
-use Rattle.std.proofs.lemmas.Bool.{eqb-true, eqb-false, leb-false, ltb-true, ltb-false, false_from_ne_true, cases_Bool}
+use Rattle.std.proofs.lemmas.Bool.{eqb-true, eqb-false, leb-false, ltb-true, ltb-false, false_from_ne_true}
 use Rattle.rox_grammar.specs.declared.fault.Fault.{Fault}
 use Rattle.rox_grammar.specs.declared.fault.Word.{Word}
 use Rattle.rox_grammar.specs.declared.fault.Word.TheVariants as word
 use Rattle.rox_grammar.specs.declared.fault.Expected.TheVariants as expected
-use Rattle.rox_grammar.specs.declared.fault.Due.TheVariants as due
 use Rattle.rox_grammar.specs.declared.fault.Fault.TheVariants as fault
 use Rattle.rox_grammar.specs.Chars.{is_space}
 use Rattle.rox_grammar.specs.Runs.{run_end, passing}
@@ -19,9 +18,8 @@ use Rattle.rox_grammar.specs.Written.{Item, Comment, PI, leaf}
 use Rattle.rox_grammar.specs.Tree.{scope_in}
 use Rattle.rox_grammar.specs.Names.{byte, spaces_end}
 use Rattle.rox_grammar.specs.Constructs.{IsEq, PairAt, DeclarationTo, version, encoding, standalone}
-use Rattle.rox_grammar.specs.Content.{IsMisc}
+use Rattle.rox_grammar.specs.Content.{IsMisc, Inclusion, IsElement}
 use Rattle.rox_grammar.specs.WellNamed.{AreWellNamed}
-use Rattle.rox_grammar.specs.Content.{Inclusion, IsElement}
 use Rattle.rox_grammar.specs.TextStart.{after_bom}
 use Rattle.rox_grammar.specs.Entities.{Entity, no_entities, most_deep, included_in_main}
 use Rattle.rox_grammar.specs.Doctype.{Asked}
@@ -78,17 +76,15 @@ unfolding run_end
 no_more_space src i utf8 cut =
     false_from_ne_true _ (λ space.
     let k = spaces_end src i in
-    let ascii = space_ascii (byte src k) space in
     let inside : k < length src = within src k (λ z. let e : is_space 0 ≡ true = rw z at space in cc e) in
     let spelled = IsUtf8-drop src i utf8 cut in
     let all : chars (drop i src) ≡ spelled.0 = ap chars (sym spelled.1.1) ∙ chars-encodes spelled.0 spelled.1.0 in
     let same : i + passing is_space spelled.0 ≡ k = ap (λ (cs : List ℕ). i + passing is_space cs) (sym all) in
     let found = fails_in is_space src spelled.0 i (sym spelled.1.1) spelled.1.0 (omega arith) in
     let there : chars (drop k src) ≡ found.0 ∷ found.1 = ap (λ (m : ℕ). chars (drop m src)) (sym same) ∙ ap chars found.2 ∙ chars-encodes (found.0 ∷ found.1) found.4 in
-    let both : byte src k ∷ chars (drop (k + 1) src) ≡ found.0 ∷ found.1 = sym (chars_here src k inside ascii) ∙ there in
+    let both : byte src k ∷ chars (drop (k + 1) src) ≡ found.0 ∷ found.1 = sym (chars_here src k inside (space_ascii (byte src k) space)) ∙ there in
     let first : byte src k ≡ found.0 = cc in
-    let no : is_space (byte src k) ≡ false = ap is_space first ∙ found.3 in
-    cc (sym space ∙ no))
+    cc (sym space ∙ (ap is_space first ∙ found.3)))
 
 module _ (src : List ℕ) (utf8 : IsUtf8 src) where
   -- ---- the declaration
@@ -121,19 +117,14 @@ module _ (src : List ℕ) (utf8 : IsUtf8 src) where
       (λ bad. let bad' = rw (q0, q1) at bad in
       (v + 1, chars_to e, its_value name.0 name.1 v is_name eq quote.0, chars_fails src (v + 1) e f utf8 cut' (value_cut src utf8 v inside quote.0) le bad'))
       (λ text read h.
-      let read' = rw (q0, q1) at read in
-      let sound = chars_sound e src (v + 1) text utf8 le read' in
+      let sound = chars_sound e src (v + 1) text utf8 le (rw (q0, q1) at read) in
       let bad' = rw (q0, sound.2) at h in
       (e, a_byte (byte src v), closing name.0 name.1 v is_name eq quote.0 (inr sound.0), byte_fails (byte src v) src e f bad')))))
 
   -- The white space after it.
   gap_fails : (i : ℕ) (f : Fault) → gap_at src i ≡ Err f → (i < length src) × (stands (word_text word.PIEnd) src i ≡ false) × IsMissing src i a_space f
   unfolding gap_at
-  gap_fails i f h =
-      chosen (leb (length src) i) _ _ _ h (λ out h. cc)
-      (λ inside h. chosen (is_space (byte src i)) _ _ _ h (λ space h. cc)
-      (λ none h. chosen (stands (word_text word.PIEnd) src i) _ _ _ h (λ ends h. cc)
-      (λ other h. let is : fault.InvalidChar2 due.Space (byte src i) i ≡ f = cc in (leb-false _ _ inside, other, subst (IsMissing src i a_space) is (no_space (leb-false _ _ inside) none)))))
+  gap_fails i f h = grind (arith, no_space)
 
   -- What is required in the declaration.
   abbrev pub Declares : ℕ → Fault → Type 0
@@ -206,13 +197,7 @@ module _ (src : List ℕ) (utf8 : IsUtf8 src) where
   -- So it is where they stop.
   pub misc_stops : (n limit b i : ℕ) (done : Forest Item) (u : State) → IsCharBoundary src i → length src ≤ i + n → misc limit n src (state i done root b) ≡ Ok u → StopsAt u.at
   unfolding misc comment_step instruction_step
-  misc_stops zero limit b i done u cut' enough h =
-      subst (λ (u : State). StopsAt u.at) (ok_same _ _ h) (
-        false_from_ne_true _ (λ x. let l = space_within src i x in omega arith),
-        false_from_ne_true _ (λ x. let l = comment_bytes src i x in omega arith),
-        false_from_ne_true _ (λ x. let l = instruction_bytes src i x in omega arith),
-        cut',
-      )
+  misc_stops zero limit b i done u cut' enough h = grind (arith, space_within, comment_bytes, instruction_bytes)
   misc_stops (suc n) limit b i done u cut' enough h =
       let k = spaces_end src i in
       let le = run_end_le is_space src i in
@@ -355,9 +340,8 @@ module _ (src : List ℕ) (utf8 : IsUtf8 src) where
         let s = state i before root 255 in
         chosen (byte src i == 60) _ _ _ h
         (λ is h.
-        let opens' : byte src i ≡ 60 = eqb-true _ _ is in
         bind_ok (tag_step (main_text limit es) src s) _ _ h (λ t read h. bind_ok (drive (main_text limit es) (length src) src t) _ _ h (λ u driven h. bind_lifted (misc limit (length src) src u) _ _ h (λ v rest h.
-        let root' = root_read i before t u opens' fine read driven in
+        let root' = root_read i before t u (eqb-true _ _ is) fine read driven in
         let one = root'.1 in
         let u_is = root'.3 in
         let cut'' = ends_cut src u.at utf8 (element_ends true (opens 0) src i u.at 255 root'.0 one root'.2) in
@@ -377,8 +361,7 @@ module _ (src : List ℕ) (utf8 : IsUtf8 src) where
         (λ more bad. let is : fault.UnknownToken i ≡ f = cc in subst (P src) is (unknown_ahead i before ahead (fits_here s fine) (ltb-true _ _ more) no_space' (eqb-false _ _ none)))
         (λ all bad.
         let is : fault.NoRootNode ≡ f = cc in
-        let end : i ≡ length src = omega (arith, ltb-false _ _ all, cut'.0) in
-        subst (P src) is (no_root before (subst (λ (p : ℕ). PrologAt p before) end ahead) (fits_here s fine))))
+        subst (P src) is (no_root before (subst (λ (p : ℕ). PrologAt p before) (omega (arith, ltb-false _ _ all, cut'.0)) ahead) (fits_here s fine))))
 
   -- ---- the whole
 
@@ -409,20 +392,12 @@ module _ (src : List ℕ) (utf8 : IsUtf8 src) where
   -- A document type declaration that is not allowed: row 17.
   doctype_fails : (limit : ℕ) (d : Dtd) (e : Refusal) → (whole.doctype limit false src d).1 ≡ Err e → (at word.DoctypeStart src d.state.at ≡ true) × (here fault.DtdDetected ≡ e)
   unfolding whole.doctype
-  doctype_fails limit d e h =
-      elim (cases_Bool (at word.DoctypeStart src d.state.at)) as (λ z. (at word.DoctypeStart src d.state.at ≡ true) × (here fault.DtdDetected ≡ e)) [
-        | inl is ↦ (let h' : ◌≡◌ {A = Result Dtd Refusal} (Err (here fault.DtdDetected)) (Err e) = rw is at h in (is, cc h'))
-        | inr none ↦ (let h' : ◌≡◌ {A = Result Dtd Refusal} (Ok d) (Err e) = rw none at h in no_fault d e h')
-      ]
+  doctype_fails limit d e h = grind arith
 
   -- Where there is none reading continues.
   pub doctype_none : (limit : ℕ) (d c : Dtd) → (whole.doctype limit false src d).1 ≡ Ok c → (at word.DoctypeStart src d.state.at ≡ false) × (d ≡ c)
   unfolding whole.doctype
-  doctype_none limit d c h =
-      elim (cases_Bool (at word.DoctypeStart src d.state.at)) as (λ z. (at word.DoctypeStart src d.state.at ≡ false) × (d ≡ c)) [
-        | inl is ↦ (let h' : ◌≡◌ {A = Result Dtd Refusal} (Err (here fault.DtdDetected)) (Ok c) = rw is at h in cc h')
-        | inr none ↦ (let h' : ◌≡◌ {A = Result Dtd Refusal} (Ok d) (Ok c) = rw none at h in (none, ok_same _ _ h'))
-      ]
+  doctype_none limit d c h = grind arith
 
   -- A whole text.
   pub reading_fails : (limit : ℕ) (replies : List Reply) (e : Refusal) → (reading limit false replies src).1 ≡ Err e → IsHere (FaultOf limit src) e
@@ -432,7 +407,6 @@ module _ (src : List ℕ) (utf8 : IsUtf8 src) where
       let less : limit ≤ most = omega arith in
       let least : most ≤ max limit 1 = omega arith in
       let b = after_bom src in
-      let bom = bom_cut src utf8 in
       asks_err (asks_nothing (lifted (prolog src b))) _ e h
       (λ bad. lifted_only (prolog src b) e bad (λ f bad same. (
         f,
@@ -443,7 +417,7 @@ module _ (src : List ℕ) (utf8 : IsUtf8 src) where
       )))
       (λ i declared h.
       let may = prolog_sound src utf8 b i (lifted_ok declared) in
-      let cut' = prolog_cut src utf8 b i bom may in
+      let cut' = prolog_cut src utf8 b i (bom_cut src utf8) may in
       let first = state i Nil root 255 in
       let start : IsValidState most first = record { nodes = omega arith; attributes = omega arith; pairs = omega arith; named = tt } in
       let ahead : PrologTo src i Nil = (i, may, no_misc i) in

@@ -13,8 +13,7 @@ use Rattle.rox_grammar.specs.Written.{Item, leaf}
 use Rattle.rox_grammar.specs.Names.{byte}
 use Rattle.rox_grammar.specs.Content.{IsMisc}
 use Rattle.rox_grammar.specs.Entities.{Replacement, Entity}
-use Rattle.rox_grammar.specs.Doctype.{Request, Asked, IsQuoted, IsSpace, IsExternalID, MayHaveNotation, IsDefinition, internal, external, IsKind, BeginsEntity, IsEntityDeclaration, Subset, no_more, space, an_item, skipped_declaration, an_entity, BeginsDoctype, IsDoctype, no_subset, with_subset}
-use Rattle.rox_grammar.specs.Doctype.{IsPassed}
+use Rattle.rox_grammar.specs.Doctype.{Request, Asked, IsQuoted, IsSpace, IsExternalID, MayHaveNotation, IsDefinition, internal, external, IsKind, BeginsEntity, IsEntityDeclaration, Subset, no_more, space, an_item, skipped_declaration, an_entity, BeginsDoctype, IsDoctype, no_subset, with_subset, IsPassed}
 use Rattle.rox_reading.proofs.Forests.{join-nil}
 use Rattle.rox_theory.specs.Answers.{SameAnswers}
 use Rattle.rox_theory.proofs.DeclarationLemmas.{stands_reads}
@@ -205,8 +204,7 @@ module _ (src : List ℕ) where
           subset_front (passed_end src i) j xs ys a b c es fs front (subst (λ (m : ℕ). Left m ys b fs) there.1.next there.2) same
       subset_front i j xs ys a b c es fs (an_entity _ m _ _ first later one others is front) all same =
           let there = entity_there i ys b fs all (declaration_parts is).head.opens in
-          let split : SameAnswers (first ++ (later ++ c)) (there.1 ++ there.2) = grind (arith, append_assoc) in
-          let once = entity_once i m there.0 first there.1 (later ++ c) there.2 one there.3 is there.5 split in
+          let once = entity_once i m there.0 first there.1 (later ++ c) there.2 one there.3 is there.5 (grind (arith, append_assoc)) in
           let next = subset_front m j xs ys later there.2 c others there.4 front (subst (λ (m : ℕ). Left m ys there.2 there.4) (sym once.1) there.6) once.3 in
           grind (arith, append_assoc)
 
@@ -222,8 +220,7 @@ module _ (src : List ℕ) where
     doctypes_once i j k xs ys a b es fs (no_subset _ s begins closes) (with_subset _ t l _ _ _ begins' opens subset bracket closes') same = grind (arith, doctype_once)
     doctypes_once i j k xs ys a b es fs (with_subset _ t l _ _ _ begins opens subset bracket closes) (no_subset _ s begins' closes') same = grind (arith, doctype_once)
     doctypes_once i j k xs ys a b es fs (with_subset _ s m _ _ _ begins opens subset bracket closes) (with_subset _ t l _ _ _ begins' opens' subset' bracket' closes') same =
-        let at = doctype_once i s t begins begins' in
-        let first : Subset src (t + 1) m xs a es = subst (λ (s : ℕ). Subset src (s + 1) m xs a es) at subset in
+        let first : Subset src (t + 1) m xs a es = subst (λ (s : ℕ). Subset src (s + 1) m xs a es) (doctype_once i s t begins begins') subset in
         let same' : SameAnswers (a ++ []) b = subst (λ (a : List Asked). SameAnswers a b) (sym (append-nil a)) same in
         let r = subset_front l bracket' (t + 1) m xs ys a b [] es fs first subset' same' in
         grind (arith, left_ends, join-nil, append-nil)

@@ -10,12 +10,11 @@ use Rattle.rox_grammar.specs.Spans.{IsTextSpan, NamesText}
 use Rattle.rox_grammar.specs.FixedTexts.{word_text}
 use Rattle.rox_grammar.specs.Chars.{is_space}
 use Rattle.rox_grammar.specs.Runs.{begins}
-use Rattle.rox_grammar.specs.Written.{Name, Attribute, NamespaceDecl, is_namespace_decl, namespace_decl_of}
+use Rattle.rox_grammar.specs.Written.{Name, Attribute, NamespaceDecl, is_namespace_decl}
 use Rattle.rox_grammar.specs.NameParts.{local_span, prefix_span}
-use Rattle.rox_grammar.specs.Tree.{is_declared, listed, listable_of}
+use Rattle.rox_grammar.specs.Tree.{listed}
 use Rattle.rox_grammar.specs.WellNamed.{is_known, same_expanded}
-use Rattle.rox_grammar.specs.Document.{most_pairs, most_attributes}
-use Rattle.rox_grammar.specs.Counts.{with_new}
+use Rattle.rox_grammar.specs.Document.{most_attributes}
 use Rattle.rox_grammar.specs.Names.{byte, spaces_end}
 use Rattle.rox_reading.specs.Refusals.{Refusal}
 use Rattle.rox_reading.specs.Lexical.{◌>>=◌, byte_at, quote_at, chars_up_to, qname_at}
@@ -23,7 +22,7 @@ use Rattle.rox_reading.specs.Markup.{RawAttribute, raw_value_at, attribute_at, T
 use Rattle.rox_reading.specs.Values.{ReadText, value_at}
 use Rattle.rox_reading.specs.Tags.{Values, TagSoFar, TagRest, TagRead, prefix_tested, default_tested, uri_tested, declared, taken, attribute_with, after_tag_item, attributes_at, names_tested, tested_at, tag_tested, tag_at}
 use Rattle.rox_reading.specs.Machine.{name_span}
-use Rattle.rox_theory.proofs.Basics.{ok_same, bind_ok, chosen}
+use Rattle.rox_theory.proofs.Basics.{chosen}
 use Rattle.rox_theory.proofs.AttributeLemmas.{RawStands, turn_sound}
 use Rattle.rox_theory.proofs.LiteralLemmas.{literal_closes}
 use Rattle.rox_faults.proofs.ValueSpans.{chars_spans, spanned_fault, spanned_by, Told, told_bind, told_cond, told_after}
@@ -83,16 +82,12 @@ raw_well quote src i = well_if src _ _ _ (well_err src _ tt) (chars_well _ src i
 -- A name.
 pub qname_well : (src : List ℕ) (i : ℕ) → FailsWell src (qname_at src i)
 unfolding qname_at
-qname_well src i =
-    well_if src _ _ _ (well_if src _ _ _ (well_ok src _) (well_err src _ tt)) (well_if src _ _ _ (well_ok src _) (well_err src _ tt))
+qname_well src i = grind arith
 
 -- An attribute before its value is looked at.
 pub attribute_well : (src : List ℕ) (i : ℕ) → FailsWell src (attribute_at src i)
 unfolding attribute_at
-attribute_well src i =
-    well_bind src _ _ (qname_well src i) (λ name e. well_bind src _ _ (byte_well 61 src _) (λ equals e.
-    well_bind src _ _ (quote_well src _) (λ quote e. well_bind src _ _ (raw_well _ src _) (λ value e.
-    well_bind src _ _ (byte_well _ src _) (λ done e. well_ok src _)))))
+attribute_well src i = grind (arith, qname_well, byte_well, quote_well, raw_well)
 
 -- A turn.
 pub turn_well : (src : List ℕ) (i : ℕ) → FailsWell src (tag_item_at src i)
@@ -113,8 +108,7 @@ pub record Named (src : List ℕ) (a : Attribute) : Type 0 where
 -- A character begins after an attribute that is there.
 pub raw_cut : (src : List ℕ) (i j : ℕ) (raw : RawAttribute) → IsUtf8 src → RawStands src i j raw → IsCharBoundary src j
 raw_cut src i j raw utf8 r =
-    let next = r.literal.0.3 in
-    rw next (cut_behind src raw.value_end (byte src r.v) utf8 (literal_closes src r.v raw.value_end j r.literal) (omega arith) (omega arith))
+    rw r.literal.0.3 (cut_behind src raw.value_end (byte src r.v) utf8 (literal_closes src r.v raw.value_end j r.literal) (omega arith) (omega arith))
 
 -- An attribute's name, of a turn.
 abbrev pub RawNamed : List ℕ → RawAttribute → ℕ → Type 0
@@ -124,9 +118,8 @@ RawNamed src raw j = IsTextSpan src (prefix_span raw.name raw.start) × IsTextSp
 pub turn_named : (src : List ℕ) (i : ℕ) (raw : RawAttribute) (j : ℕ) → IsUtf8 src → IsCharBoundary src i → tag_item_at src i ≡ Ok (more raw, j) → RawNamed src raw j
 turn_named src i raw j utf8 cut h =
     let stands = (turn_sound src utf8 i (more raw, j) h).1 in
-    let starts = stands.starts in
     let text = qname_text src (spaces_end src i) raw.name raw.name_end utf8 (run_cut is_space src i utf8 cut) stands.is_name in
-    (rw starts text.0, text.1, raw_cut src (spaces_end src i) j raw utf8 stands)
+    (rw stands.starts text.0, text.1, raw_cut src (spaces_end src i) j raw utf8 stands)
 
 -- All of these attributes.
 abbrev pub AllNamed : List ℕ → List Attribute → Type 0
@@ -155,19 +148,12 @@ uri_well src a = well_if src (bytes_eq a.name.prefix (word_text word.Xmlns)) _ _
 -- A declaration's fault.
 pub declared_spans : (src : List ℕ) (known : List NamespaceDecl) (a : Attribute) (h : TagSoFar) → Named src a → FailsWell src (declared known a h)
 unfolding declared
-declared_spans src known a h named =
-    well_bind src (uri_tested a) _ (uri_well src a) (λ u e.
-    well_if src (is_declared (namespace_decl_of a).prefix h.own) _ _ (well_err src (fault.DuplicatedNamespace (local_span a.name a.name_end) a.start) named.local)
-    (well_if src (ltb most_pairs (length (with_new known (listable_of (h.own ++ namespace_decl_of a ∷ []))))) _ _ (well_err src _ tt) (well_ok src _)))
+declared_spans src known a h named = grind (arith, well_bind)
 
 -- A declaration leaves the attributes as they are.
 declared_keeps : (src : List ℕ) (known : List NamespaceDecl) (a : Attribute) (h held : TagSoFar) → AllNamed src h.attributes → declared known a h ≡ Ok held → AllNamed src held.attributes
 unfolding declared
-declared_keeps src known a h held all is =
-    bind_ok (uri_tested a) _ _ is (λ u tested is.
-    chosen (is_declared (namespace_decl_of a).prefix h.own) _ _ _ is (λ again is. cc) (λ new is.
-    chosen (ltb most_pairs (length (with_new known (listable_of (h.own ++ namespace_decl_of a ∷ []))))) _ _ _ is (λ many is. cc) (λ few is.
-    subst (λ (k : TagSoFar). AllNamed src k.attributes) (ok_same _ _ is) all)))
+declared_keeps src known a h held all is = grind arith
 
 -- An attribute's fault.
 pub taken_spans : (src : List ℕ) (known : List NamespaceDecl) (a : Attribute) (h : TagSoFar) → Named src a → FailsWell src (taken known a h)

@@ -1,17 +1,14 @@
 -- The names in the faults of runs and values are texts of the source that they count in.
-use Rattle.std.proofs.Common.{◌≡◌, ℕ, zero, suc, ◌+◌, ◌-◌, ◌^◌, ◌==◌, ◌||◌, Bool, true, false, cond, leb, ltb, List, Option, Some, length, take, subst, arith}
+use Rattle.std.proofs.Common.{◌≡◌, ℕ, zero, suc, ◌+◌, ◌==◌, ◌||◌, Bool, true, false, cond, ltb, List, Option, Some, length, take, subst, arith}
 use Rattle.std.specs.Prelude.{Result, Ok, Err}
 use Rattle.std.specs.Str.{IsUtf8}
-use Rattle.std.proofs.lemmas.Bool.{eqb-true}
 use Rattle.rox_grammar.specs.declared.fault.Span.{Span}
 use Rattle.rox_grammar.specs.declared.fault.Fault.{Fault}
 use Rattle.rox_grammar.specs.Spans.{IsTextSpan, NamesText}
-use Rattle.rox_grammar.specs.Chars.{is_name_start, is_name_char, is_char}
-use Rattle.rox_grammar.specs.Runs.{run_end, begins}
+use Rattle.rox_grammar.specs.Chars.{is_name_char, is_char}
+use Rattle.rox_grammar.specs.Runs.{run_end}
 use Rattle.rox_grammar.specs.Search.{byte_from}
 use Rattle.rox_grammar.specs.Names.{byte, slice}
-use Rattle.rox_grammar.specs.References.{is_digit, is_hex_digit, number, bytes_end, character, predefined}
-use Rattle.rox_grammar.specs.Content.{is_verbatim_value}
 use Rattle.rox_grammar.specs.Entities.{Replacement, Entity, text_of}
 use Rattle.rox_reading.specs.Lexical.{◌>>=◌, chars_up_to}
 use Rattle.rox_reading.specs.Refusals.{Refusal, here, there, refused, lifted, elsewhere}
@@ -106,14 +103,7 @@ module _ (src : List ℕ) (utf8 : IsUtf8 src) where
   -- A number refers to a character.
   number_spans : (base : ℕ) (is : ℕ → Bool) (i d : ℕ) → Spanned (Reference × ℕ) src (λ (r : Reference × ℕ). RefersTo src r.0) (number_at base is src i d)
   unfolding number_at
-  number_spans base is i d =
-      let e = bytes_end is src d in
-      let n = number base (slice src d e) in
-      spanned_cond src _ (e == d) _ _ (λ h. record { holds = tt })
-      (λ h. spanned_cond src _ (leb (2 ^ 32) n) _ _ (λ h. record { holds = tt })
-      (λ h. spanned_cond src _ (is_char (character n)) _ _
-      (λ h. spanned_cond src _ (byte src e == 59) _ _ (λ h. record { holds = tt }) (λ h. record { holds = tt }))
-      (λ h. record { holds = tt })))
+  number_spans base is i d = grind arith
 
   -- An entity refers by its name.
   named_spans : (c : Option ℕ) (span : Span) → IsTextSpan src span → RefersTo src (named_or c span)
@@ -126,21 +116,12 @@ module _ (src : List ℕ) (utf8 : IsUtf8 src) where
   -- A name between `&` and `;`.
   name_reference_spans : (i : ℕ) → byte src i ≡ 38 → Spanned (Reference × ℕ) src (λ (r : Reference × ℕ). RefersTo src r.0) (name_reference_at src i)
   unfolding name_reference_at
-  name_reference_spans i amp =
-      let n = run_end is_name_char src (i + 1) in
-      spanned_cond src _ (begins is_name_start src (i + 1)) _ _
-      (λ h. spanned_cond src _ (byte src n == 59) _ _
-      (λ h. record { holds = named_spans (predefined (slice src (i + 1) n)) _ (name_span_text i amp) })
-      (λ h. record { holds = tt }))
-      (λ h. record { holds = tt })
+  name_reference_spans i amp = grind (arith, name_span_text)
 
   -- A reference.
   pub reference_spanned : (i : ℕ) → byte src i ≡ 38 → Spanned (Reference × ℕ) src (λ (r : Reference × ℕ). RefersTo src r.0) (reference_at src i)
   unfolding reference_at
-  reference_spanned i amp =
-      spanned_cond src _ (byte src (i + 1) == 35) _ _
-      (λ h. spanned_cond src _ (byte src (i + 2) == 120) _ _ (λ h. number_spans 16 is_hex_digit i (i + 3)) (λ h. number_spans 10 is_digit i (i + 2)))
-      (λ h. name_reference_spans i amp)
+  reference_spanned i amp = grind (arith, number_spans, name_reference_spans)
 
   -- A replacement text is text.
   abbrev pub IsSource : Bit → Type 0
@@ -165,18 +146,12 @@ module _ (src : List ℕ) (utf8 : IsUtf8 src) where
     -- A reference that is expanded.
     expansion_spans : (i : ℕ) → byte src i ≡ 38 → Spanned (Bit × ℕ) src (λ (x : Bit × ℕ). IsSource x.0) (expansion_at es src i)
     unfolding expansion_at
-    expansion_spans i amp =
-        spanned_bind src (λ (r : Reference × ℕ). RefersTo src r.0) _ (reference_at src i) _ (reference_spanned i amp) (λ r read is.
-        spanned_bind src IsSource _ (reference_bit es src i r.0) _ (expanded_spans i r.0 is) (λ bit read h. record { holds = h }))
+    expansion_spans i amp = grind (arith, reference_spanned, expanded_spans)
 
     -- A bit of a run.
     run_bit_spans : (main : Bool) (stop i : ℕ) → Spanned (Bit × ℕ) src (λ (x : Bit × ℕ). IsSource x.0) (data_bit_at main es src stop i)
     unfolding data_bit_at
-    run_bit_spans true stop i =
-        spanned_cond src _ (byte src i == 38) _ _
-        (λ amp. expansion_spans i (eqb-true _ _ amp))
-        (λ h. spanned_cond src _ (byte src i == 13) _ _ (λ h. record { holds = tt }) (λ h. record { holds = tt }))
-    run_bit_spans false stop i = spanned_cond src _ (byte src i == 38) _ _ (λ amp. expansion_spans i (eqb-true _ _ amp)) (λ h. record { holds = tt })
+    run_bit_spans main stop i = grind (arith, expansion_spans)
 
     -- A bit, and what follows it.
     after_bit_spans : (more : ℕ → Result (List ℕ × Next) Fault) (bit : Bit) (j : ℕ) → IsSource bit → Spanned (List ℕ × Next) src (λ (x : List ℕ × Next). NextIsSource x.1) (more j)
@@ -199,9 +174,7 @@ module _ (src : List ℕ) (utf8 : IsUtf8 src) where
 
     value_reference_spans : (main : Bool) (i : ℕ) → byte src i ≡ 38 → Spanned (Bit × ℕ) src (λ (x : Bit × ℕ). IsSource x.0) (value_reference_at main es src i)
     unfolding value_reference_at
-    value_reference_spans main i amp =
-        spanned_bind src (λ (r : Reference × ℕ). RefersTo src r.0) _ (reference_at src i) _ (reference_spanned i amp) (λ r read is.
-        spanned_bind src IsSource _ (tested_bit main i r.0 (reference_bit es src i r.0)) _ (tested_spans main i r.0 (expanded_spans i r.0 is)) (λ bit read h. record { holds = h }))
+    value_reference_spans main i amp = grind (arith, reference_spanned, expanded_spans)
 
     -- A stretch.
     stretch_spans : (main : Bool) (stop i : ℕ) → Spanned (Bit × ℕ) src (λ (x : Bit × ℕ). IsSource x.0) (stretch_at main src stop i)
@@ -213,14 +186,7 @@ module _ (src : List ℕ) (utf8 : IsUtf8 src) where
     -- A bit of a value.
     value_bit_spans : (main : Bool) (stop i : ℕ) → Spanned (Bit × ℕ) src (λ (x : Bit × ℕ). IsSource x.0) (value_bit_at main es src stop i)
     unfolding value_bit_at
-    value_bit_spans main stop i =
-        spanned_cond src _ (byte src i == 38) _ _
-        (λ amp. value_reference_spans main i (eqb-true _ _ amp))
-        (λ h. spanned_cond src _ (is_special (byte src i)) _ _
-        (λ h. spanned_cond src _ (byte src i == 13) _ _
-        (λ h. spanned_cond src _ (byte (take stop src) (i + 1) == 10) _ _ (λ h. record { holds = tt }) (λ h. record { holds = tt }))
-        (λ h. record { holds = tt }))
-        (λ h. stretch_spans main stop i))
+    value_bit_spans main stop i = grind (arith, value_reference_spans, stretch_spans)
 
     -- The refusals of what a replacement text is read to as a part of a value are told.
     abbrev pub OpenerTold : ValueInclusion → Type 0
@@ -245,10 +211,7 @@ module _ (src : List ℕ) (utf8 : IsUtf8 src) where
       -- A value.
       pub value_told : (main : Bool) (i stop openings_left : ℕ) → Told (ReadText × ℕ) src (λ x. Unit {0}) (value_at main es opener src i stop openings_left)
       unfolding value_at
-      value_told main i stop openings_left =
-          told_cond src _ (is_verbatim_value (slice src i stop)) _ _
-          (λ h. record { tells = tt })
-          (λ h. told_bind src (λ (x : List ℕ × ℕ). Unit {0}) _ (value_text main es opener (stop - i) src stop i openings_left) _ (value_text_told main (stop - i) stop i openings_left) (λ value read h. record { tells = tt }))
+      value_told main i stop openings_left = grind (arith, value_text_told)
 
 -- How many may be opened: the fault has no name.
 pub budget_spans : (src : List ℕ) (main : Bool) (after openings_left : ℕ) → FaultSpanned src (budget main after openings_left)

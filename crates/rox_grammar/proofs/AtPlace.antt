@@ -1,13 +1,13 @@
 -- What stands at a place of a source: fixed texts, the first of one, white space, and the ends of runs.
-use Rattle.std.proofs.Common.{◌≡◌, ℕ, suc, ◌+◌, ◌<◌, ◌≤◌, ◌==◌, Bool, true, List, [], ◌∷◌, ◌++◌, length, get_or, drop, refl, sym, subst, arith, inl, inr, add-zero, length-drop, get_or-drop}
+use Rattle.std.proofs.Common.{◌≡◌, ℕ, suc, ◌+◌, ◌<◌, ◌≤◌, ◌==◌, Bool, true, List, [], ◌∷◌, ◌++◌, length, get_or, drop, refl, sym, arith, inl, inr, add-zero, length-drop, get_or-drop}
 use Rattle.std.specs.List.{starts_with}
 use Rattle.std.specs.Str.{IsCharBoundary}
-use Rattle.std.proofs.lemmas.Bool.{cases_lt, cases_Bool, cond_both}
+use Rattle.std.proofs.lemmas.Bool.{cases_Bool, cond_both}
 use Rattle.std.proofs.lemmas.Bool.Decides.{Decides-eqb, nat_tests}
 use Rattle.std.proofs.lemmas.List.{drop_all}
 use Rattle.std.proofs.lemmas.List.Prefix.{at_reads, front_fits}
 use Rattle.std.proofs.lemmas.Slice.Eq.{starts_is}
-use Rattle.std.proofs.lemmas.Str.{IsCharBoundary-before_ascii, IsCharBoundary-end, chars-nil}
+use Rattle.std.proofs.lemmas.Str.{chars-nil}
 use Rattle.rox_grammar.specs.Chars.{is_space}
 use Rattle.rox_grammar.specs.Runs.{run_end}
 use Rattle.rox_grammar.specs.Search.{before_mark, mark_from, stands}
@@ -24,8 +24,7 @@ stands_reads mark src i j h within = at_reads 0 src mark i _ (stands_split mark 
 -- And it is within the source.
 pub stands_fits : (mark src : List ℕ) (i : ℕ) → 0 < length mark → stands mark src i ≡ true → i + length mark ≤ length src
 stands_fits mark src i some h =
-    let fits = front_fits (drop i src) mark _ (stands_split mark src i h) in
-    omega (arith, fits, length-drop i src)
+    omega (arith, (front_fits (drop i src) mark _ (stands_split mark src i h)), length-drop i src)
 
 -- A mark is found in the text or at its end.
 pub before_mark_le : (mark bs : List ℕ) → before_mark mark bs ≤ length bs
@@ -47,15 +46,7 @@ before_mark_reads mark (c ∷ cs) long some =
 -- A character begins where a mark is found whose first byte is ASCII.
 pub mark_from_cut : (mark src : List ℕ) (i : ℕ) → 0 < length mark → get_or mark 0 0 < 128 → i ≤ length src → IsCharBoundary src (mark_from mark src i)
 unfolding mark_from
-mark_from_cut mark src i some ascii inside =
-    let k = before_mark mark (drop i src) in
-    let le = before_mark_le mark (drop i src) in
-    let reads = before_mark_reads mark (drop i src) some in
-    let long = length-drop i src in
-    elim (cases_lt (i + k) (length src)) as (λ s. IsCharBoundary src (i + k)) [
-      | inl below ↦ (let here = reads (omega arith) in IsCharBoundary-before_ascii src (i + k) below (omega (arith, here, ascii, get_or-drop i src k 0)))
-      | inr past ↦ (let e : length src ≡ i + k = omega arith in subst (IsCharBoundary src) e (IsCharBoundary-end src))
-    ]
+mark_from_cut mark src i some ascii inside = grind (arith, before_mark_le, before_mark_reads, length-drop, get_or-drop)
 
 -- A run is empty at the end, and past it.
 pub run_at_end : (p : ℕ → Bool) (src : List ℕ) (i : ℕ) → length src ≤ i → run_end p src i ≡ i

@@ -23,8 +23,7 @@ counted_apart known e [] none = refl
 counted_apart known e (d ∷ ds) none =
     let n = or_parts (same_pair e d) (list_any (same_pair e) ds) none in
     let same : has_pair (known ++ e ∷ []) d ≡ has_pair known d = has_last known e d ∙ ap (λ (b : Bool). has_pair known d || b) n.0 ∙ or-false (has_pair known d) in
-    let rest = counted_apart known e ds n.1 in
-    rw (same, rest) refl
+    rw (same, (counted_apart known e ds n.1)) refl
 
 -- One more is known that is among them.
 counted_again : (known : List NamespaceDecl) (e : NamespaceDecl) (ds : List NamespaceDecl) → has_pair known e ≡ false → list_any (same_pair e) ds ≡ true
@@ -36,14 +35,11 @@ counted_again known e (d ∷ ds) new some =
       | inl is ↦ (
           let same : d ≡ e = sym (same_pair-true e d is) in
           let there : has_pair (known ++ e ∷ []) d ≡ true = has_last known e d ∙ ap (λ (b : Bool). has_pair known d || b) is ∙ or-true (has_pair known d) in
-          let absent : has_pair known d ≡ false = ap (has_pair known) same ∙ new in
           elim (cases_Bool (list_any (same_pair d) ds)) as (λ q. 1 + counted (known ++ e ∷ []) (d ∷ ds) ≡ counted known (d ∷ ds)) [
             | inl again ↦ (
                 let again' : list_any (same_pair e) ds ≡ true = ap (λ (x : NamespaceDecl). list_any (same_pair x) ds) (sym same) ∙ again in
-                rw (there, absent, again) (counted_again known e ds new again'))
-            | inr last ↦ (
-                let last' : list_any (same_pair e) ds ≡ false = ap (λ (x : NamespaceDecl). list_any (same_pair x) ds) (sym same) ∙ last in
-                rw (there, absent, last) (ap (λ (n : ℕ). 1 + n) (counted_apart known e ds last')))
+                rw (there, (ap (has_pair known) same ∙ new), again) (counted_again known e ds new again'))
+            | inr last ↦ grind (arith, counted_apart)
           ])
       | inr other ↦ (
           let some' : list_any (same_pair e) ds ≡ true = ap (λ (b : Bool). b || list_any (same_pair e) ds) (sym other) ∙ some in
@@ -69,8 +65,7 @@ with_new_counted known (d ∷ ds) =
 
 none_known : (ds : List NamespaceDecl) → counted [] ds ≡ distinct_count ds
 unfolding counted
-none_known [] = refl
-none_known (d ∷ ds) = let rest = none_known ds in rw rest refl
+none_known ds = cc
 
 pub distinct_same : (ds : List NamespaceDecl) → distinct_count ds ≡ length (distinct_pairs ds)
 distinct_same ds = omega (arith, with_new_counted [] ds, none_known ds)
@@ -87,17 +82,7 @@ pub record IsWithinCounts (nodes_limit : ℕ) (tree : Forest Item) : Type 0 wher
   pub namespaces : length (distinct_pairs (pairs_in tree)) ≤ most_pairs
 
 pub limits_counted : (nodes_limit : ℕ) (tree : Forest Item) → IsWithinLimits nodes_limit tree → IsWithinCounts nodes_limit tree
-limits_counted nodes_limit tree within =
-    record {
-      nodes = within.nodes;
-      attributes = within.attributes;
-      namespaces = omega (arith, within.namespaces, pairs_counted tree);
-    }
+limits_counted nodes_limit tree within = grind (arith, pairs_counted)
 
 pub counts_limited : (nodes_limit : ℕ) (tree : Forest Item) → IsWithinCounts nodes_limit tree → IsWithinLimits nodes_limit tree
-counts_limited nodes_limit tree within =
-    record {
-      nodes = within.nodes;
-      attributes = within.attributes;
-      namespaces = omega (arith, within.namespaces, pairs_counted tree);
-    }
+counts_limited nodes_limit tree within = grind (arith, pairs_counted)

@@ -1,5 +1,5 @@
 -- The names of a tag, one after the others: what loops over declarations and attributes know.
-use Rattle.std.proofs.Common.{◌≡◌, true, false, ◌||◌, Bool, List, [], ◌∷◌, ◌++◌, refl}
+use Rattle.std.proofs.Common.{◌≡◌, true, false, ◌||◌, Bool, List, [], ◌∷◌, ◌++◌, refl, arith}
 use Rattle.std.specs.List.{list_any, list_all, IsDistinct, AllByRecursion}
 use Rattle.std.proofs.lemmas.Bool.{or_parts, and_parts}
 use Rattle.rox_grammar.specs.Written.{Attribute, NamespaceDecl}
@@ -98,6 +98,4 @@ pub distinct_behind : (scope : List NamespaceDecl) (as' : List Attribute) → Ar
 distinct_behind scope as' h = behind (λ a. is_known scope a.name) (λ a b. same_expanded scope a.name b.name) [] as' h.0 refl h.1
 
 pub are_distinct : (scope : List NamespaceDecl) (as' : List Attribute) → DistinctBehind scope [] as' → AreDistinct scope as'
-are_distinct scope as' h =
-    let f = fine (λ a. is_known scope a.name) (λ a b. same_expanded scope a.name b.name) [] as' h in
-    (f.0, f.2)
+are_distinct scope as' h = grind (arith, fine)

@@ -1,7 +1,5 @@
 -- Pairs of a prefix and a URI: when two are the same, and lists that get new ones.
-use Rattle.std.proofs.Common.{◌≡◌, ℕ, ◌≤◌, ◌||◌, true, false, cond, List, [], ◌∷◌, ◌++◌, length, Option, None, Some, refl, ap, ◌∙◌, arith, length-append}
-use Rattle.std.specs.Prelude.{bytes_eq}
-use Rattle.std.proofs.lemmas.Bool.{and_parts}
+use Rattle.std.proofs.Common.{◌≡◌, ℕ, ◌≤◌, ◌||◌, true, false, cond, List, [], ◌∷◌, ◌++◌, length, Option, refl, arith, length-append}
 use Rattle.std.proofs.lemmas.Slice.Eq.{bytes_eq-Decides}
 use Rattle.rox_grammar.specs.Written.{NamespaceDecl}
 use Rattle.rox_grammar.specs.Tree.{same_prefix}
@@ -10,23 +8,15 @@ use Rattle.rox_grammar.specs.Counts.{has_pair, with_new}
 
 -- Prefixes that are equal by the test are equal.
 pub same_prefix-true : (p q : Option (List ℕ)) → same_prefix p q ≡ true → p ≡ q
-same_prefix-true None None h = refl
-same_prefix-true None (Some q) h = cc h
-same_prefix-true (Some p) None h = cc h
-same_prefix-true (Some p) (Some q) h = ap Some ((bytes_eq-Decides p q).0 h)
+same_prefix-true p q h = grind (arith, bytes_eq-Decides)
 
 -- A prefix is equal to itself by the test.
 pub same_prefix-refl : (p : Option (List ℕ)) → same_prefix p p ≡ true
-same_prefix-refl None = refl
-same_prefix-refl (Some p) = (bytes_eq-Decides p p).1 refl
+same_prefix-refl p = grind (arith, bytes_eq-Decides)
 
 -- Pairs that are equal by the test are equal.
 pub same_pair-true : (d e : NamespaceDecl) → same_pair d e ≡ true → d ≡ e
-same_pair-true d e h =
-    let both = and_parts (same_prefix d.prefix e.prefix) (bytes_eq d.uri e.uri) h in
-    let p = same_prefix-true d.prefix e.prefix both.0 in
-    let u = (bytes_eq-Decides d.uri e.uri).0 both.1 in
-    ap (λ (x : Option (List ℕ)). record { prefix = x; uri = d.uri }) p ∙ ap (λ (x : List ℕ). record { prefix = e.prefix; uri = x }) u
+same_pair-true d e h = grind (arith, bytes_eq-Decides)
 
 -- A pair at the end.
 pub has_last : (ds : List NamespaceDecl) (e x : NamespaceDecl) → has_pair (ds ++ e ∷ []) x ≡ (has_pair ds x || same_pair e x)

@@ -12,8 +12,7 @@ pub all_passing : (p : ℕ → Bool) (cs : List ℕ) → list_all p cs ≡ true 
 all_passing p [] h = refl
 all_passing p (c ∷ cs) h =
     let both = and_parts (p c) (list_all p cs) h in
-    let here = both.0 in
-    rw here (omega (arith, length-append (encode_utf8 c) (encodes cs), length-encode c, all_passing p cs both.1))
+    rw both.0 (omega (arith, length-append (encode_utf8 c) (encodes cs), length-encode c, all_passing p cs both.1))
 
 -- Where as many bytes pass as there are, each character passes.
 pub all_pass : (p : ℕ → Bool) (cs : List ℕ) → length (encodes cs) ≤ passing p cs → list_all p cs ≡ true

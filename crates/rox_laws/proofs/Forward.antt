@@ -10,7 +10,6 @@ use Rattle.rox_grammar.specs.Entities.{no_entities}
 use Rattle.rox_theory.proofs.Productions.{cdata_parts, end_parts}
 use Rattle.rox_theory.proofs.Basics.{mark_from_le, run_end_le}
 use Rattle.rox_theory.proofs.NameLemmas.{qname_le}
-use Rattle.rox_grammar.specs.Content.{attribute}
 
 -- a comment or an instruction
 pub misc_forward : (src : List ℕ) (i j : ℕ) (item : Item) → IsMisc src i j item → i < j

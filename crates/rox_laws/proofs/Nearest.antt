@@ -7,7 +7,6 @@ use Rattle.std.proofs.lemmas.List.Elements.{All-nil, All-cons, All-head, All-tai
 use Rattle.std.proofs.lemmas.Grind.{common_steps}
 use Rattle.rox_grammar.specs.Forest.{Forest, Nil, Cons, size}
 use Rattle.rox_grammar.specs.Written.{NamespaceDecl, Item}
-use Rattle.rox_grammar.specs.Tree as tree
 use Rattle.rox_grammar.specs.Tree.{Node, is_declared, uri_of, scope_in, node_in, resolved, document_tree}
 use Rattle.rox_grammar.specs.WellNamed.{AreWellNamed}
 use Rattle.rox_grammar.proofs.NamesApart.{DeclarableBehind}
@@ -45,13 +44,11 @@ have_rows rows b (Cons item c r) h =
     let inner = declared_in c in
     let behind = declared_in r in
     let count : length inner ≡ size c = length-declared_in c in
-    let first : row rows (b + 0) ≡ declared_at item = h 0 (omega arith) in
     let e0 : b + 0 ≡ b = omega arith in (
-      rw e0 at first,
+      rw e0 at (h 0 (omega arith)),
       have_rows rows (b + 1) c
           (λ k l. let e : (b + 1) + k ≡ b + suc k = omega arith in
-          let m : k < length inner = omega arith in
-          rw e (h (suc k) (omega arith) ∙ get_or_append_left inner behind [] k m)),
+          rw e (h (suc k) (omega arith) ∙ get_or_append_left inner behind [] k (omega arith))),
       have_rows rows (b + (1 + size c)) r
           (λ k l. let e : (b + (1 + size c)) + k ≡ b + suc (length inner + k) = omega arith in
           rw e (h (suc (length inner + k)) (omega arith) ∙ get_or-append-add inner behind k [])),
@@ -173,11 +170,10 @@ module _ (rows : List (List NamespaceDecl)) (p : Option (List ℕ)) where
 found_in : (n : ℕ) (tops : Forest Item) → AreWellNamed [] tops → (id : ℕ) (p : Option (List ℕ)) (u : List ℕ) → IsElementAt (document_tree n tops) id → p ≢ xml
     → (listed_uri (document_tree n tops) id p ≡ Some u) ↔ IsNearest tops (document_tree n tops) id p u
 found_in n tops w id p u e x =
-    let tree = document_tree n tops in
     let rows = [] ∷ declared_in tops in
     let all : All (DeclarableBehind []) rows = All-cons (DeclarableBehind []) [] (declared_in tops) tt (rows_declarable [] tops w) in
     let agree = follows n tops id e p x in (
-      (λ found. grind (arith, first_found rows p u (upwards tree id) (sym agree ∙ found))),
+      (λ found. grind (arith, first_found rows p u (upwards (document_tree n tops) id) (sym agree ∙ found))),
       (λ h. agree ∙ (ap (λ (ids : List ℕ). nearest p (map (row rows) ids)) h.way ∙ first_is rows p all u h.nearer h.declarer h.farther h.none_nearer h.declares)),
     )
 

@@ -118,8 +118,7 @@ parse_some src tops q =
     element_some : (i j b c : ℕ) (one : Forest Item) → IsElement true no_entities src i j b c one → i < j
     element_some i j b c one (empty _ _ _ _ t tag) = tag_forward src i j b c true t tag
     element_some i j b c one (nest _ k m p _ _ d _ t kids tag inner end) =
-        let inside = nested_le k m kids (content_nested src k m d c kids inner) in
-        omega (arith, tag_forward src i k b d false t tag, inside, end_forward src m t.name p j end)
+        omega (arith, tag_forward src i k b d false t tag, (nested_le k m kids (content_nested src k m d c kids inner)), end_forward src m t.name p j end)
 
 -- names resolved move nothing
 resolved_nested : (above : List NamespaceDecl) (from to : ℕ) (f : Forest Item) → Nested from to f → RangesNested from to (resolved above f)

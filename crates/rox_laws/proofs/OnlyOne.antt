@@ -127,9 +127,7 @@ one_at_most tree h id name = grind (arith, counted_at)
 pub counted_all : (name : Option (List ℕ) × List ℕ) (as' : List Attribute) (count : ℕ) (left : List Attribute) → left ≡ []
     → count + how_many name left ≡ how_many name as' → count ≡ count_by (λ a. same_expanded_name (a.namespace, a.local) name) as'
 counted_all name as' count left none sum =
-    let sum' : count + 0 ≡ how_many name as' = rw none at sum in
-    let same : count ≡ count + 0 = omega arith in
-    same ∙ sum' ∙ is_count_by (how_many name) (has name) refl (λ _ _. refl) as'
+    (omega arith) ∙ (rw none at sum) ∙ is_count_by (how_many name) (has name) refl (λ _ _. refl) as'
 
 -- which is one or none
 pub counted_one : (tree : Forest Node) → NamesDistinct tree → (id : ℕ) (name : Option (List ℕ) × List ℕ)

@@ -5,7 +5,6 @@ use Rattle.std.specs.Str.{IsUtf8, IsCharBoundary}
 use Rattle.rox_grammar.specs.declared.fault.Word.{Word}
 use Rattle.rox_grammar.specs.declared.fault.Expected.{Expected}
 use Rattle.rox_grammar.specs.declared.fault.Word.TheVariants as word
-use Rattle.rox_grammar.specs.declared.fault.Expected.TheVariants as expected
 use Rattle.rox_grammar.specs.declared.fault.Due.TheVariants as kinds
 use Rattle.rox_grammar.specs.declared.fault.Fault.{Fault}
 use Rattle.rox_grammar.specs.Chars.{is_space, is_name_char}
@@ -89,9 +88,7 @@ module _ (src : List ℕ) (utf8 : IsUtf8 src) where
   -- behind the name of an instruction, and the white space there
   spaces_inside : (i n : ℕ) → at word.PIStart src i ≡ true → IsName src (i + 2) n → spaces_end src n ≤ length src
   spaces_inside i n opens is =
-      let bytes = instruction_bytes src i opens in
-      let next : i + 1 + 1 ≡ i + 2 = omega arith in
-      let starts = subst (IsCharBoundary src) next (cut_behind src (i + 1) 63 utf8 bytes.2 (omega arith) (omega arith)) in
+      let starts = subst (IsCharBoundary src) (omega arith) (cut_behind src (i + 1) 63 utf8 (instruction_bytes src i opens).2 (omega arith) (omega arith)) in
       let ends = subst (IsCharBoundary src) (sym is.longest) (run_cut is_name_char src (i + 2) utf8 starts) in
       (run_cut is_space src n utf8 ends).0
 
@@ -116,9 +113,8 @@ module _ (src : List ℕ) (utf8 : IsUtf8 src) where
   -- behind `<?xml` and white space
   version_cut : (i : ℕ) → at word.XmlDeclStart src i ≡ true → IsCharBoundary src (spaces_end src (i + 5))
   version_cut i opens =
-      let next : i + 4 + 1 ≡ i + 5 = omega arith in
       let letter : byte src (i + 4) ≡ 108 = stands_reads (word_text word.XmlDeclStart) src i 4 opens (omega arith) in
-      run_cut is_space src (i + 5) utf8 (subst (IsCharBoundary src) next (cut_behind src (i + 4) 108 utf8 letter (omega arith) (omega arith)))
+      run_cut is_space src (i + 5) utf8 (subst (IsCharBoundary src) (omega arith) (cut_behind src (i + 4) 108 utf8 letter (omega arith) (omega arith)))
 
   -- where a pair begins
   begins_inside : (i : ℕ) (text : List ℕ) (j : ℕ) → DeclarationTo src i text j → stands text src j ≡ true → j ≤ length src

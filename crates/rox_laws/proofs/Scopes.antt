@@ -65,8 +65,7 @@ declared_says p u before (d ∷ ds) h (zero, l, e) = grind (arith, same_prefix-r
 declared_says p u before (d ∷ ds) h (suc k, l, e) =
     let n = none_before p u (before ++ d ∷ []) ds h.2 (k, omega arith, e) in
     let m = or_parts (is_declared p before) (is_declared p (d ∷ [])) (sym (list_any-append (λ (d : NamespaceDecl). same_prefix d.prefix p) before (d ∷ [])) ∙ n) in
-    let other : same_prefix d.prefix p ≡ false = (or_parts (same_prefix d.prefix p) false m.1).0 in
-    rw other (declared_says p u (before ++ d ∷ []) ds h.2 (k, omega arith, e))
+    rw ((or_parts (same_prefix d.prefix p) false m.1).0) (declared_says p u (before ++ d ∷ []) ds h.2 (k, omega arith, e))
 
 -- each item declares what may be declared
 pub item_declares : (scope : List NamespaceDecl) (item : Item) → ItemWellNamed scope item → DeclarableBehind [] (declared_at item)

@@ -29,7 +29,6 @@ use Rattle.rox_laws.specs.RangeLaws.{AreInOrder, AttributesInOrder, IsWritten, A
 use Rattle.rox_laws.proofs.Forward.{attribute_forward, attributes_forward, ends_forward, end_forward}
 use Rattle.rox_laws.proofs.Nested.{content_forward}
 use Rattle.rox_laws.proofs.EachNodeLemmas.{each_join, each_merge, each_resolved}
-use Rattle.rox_grammar.specs.Content.{attribute}
 use Rattle.rox_faults.proofs.FaultRows.{slice_split}
 
 -- ---- one attribute

@@ -1,5 +1,5 @@
 -- Stretches of the table of attributes.
-use Rattle.std.proofs.Common.{◌≡◌, ℕ, zero, suc, ◌+◌, ◌-◌, ◌==◌, ◌<◌, ◌≤◌, Bool, true, false, if◌then◌else◌, List, [], ◌∷◌, ◌++◌, length, map, take, drop, get_or, refl, sym, ap, ◌∙◌, subst, arith}
+use Rattle.std.proofs.Common.{◌≡◌, ℕ, zero, suc, ◌+◌, ◌-◌, ◌==◌, ◌<◌, ◌≤◌, Bool, true, false, if◌then◌else◌, List, [], ◌∷◌, ◌++◌, length, map, take, get_or, refl, sym, ap, ◌∙◌, subst, arith}
 use Rattle.std.specs.List.{AllByRecursion, slice_range}
 use Rattle.std.proofs.lemmas.List.{length-map, take_more, take_all, take-map, drop-map, map-append}
 use Rattle.rox_grammar.specs.Tree as tree
@@ -15,8 +15,7 @@ use Rattle.rox_lists.proofs.Entries.{reach_within}
 
 -- a stretch of what the rows are is that of what is stored
 pub stretch_rows : (t : AttributeTable) (i j : ℕ) → map (row_in t.explicit.items) (slice_range t.items.items i j) ≡ slice_range (attribute_rows t) i j
-stretch_rows t i j =
-    sym (ap (take (j - i)) (drop-map (row_in t.explicit.items) i t.items.items) ∙ take-map (row_in t.explicit.items) (j - i) (drop i t.items.items))
+stretch_rows t i j = grind (arith, drop-map, take-map)
 
 -- ---- what rows say
 
@@ -31,10 +30,7 @@ length_said t xs = length-map (map (row_in t.attributes.explicit.items) xs) (att
 
 -- the first, and the rest
 pub first_said : (t : Tables) (xs : List StoredAttribute) (x : StoredAttribute) → (length xs ≡ 0 → ⊥) → x ≡ get_or xs 0 x → all_said t xs ≡ said t x ∷ all_said t (slice_range xs 1 (length xs))
-first_said t [] x some is = absurd (some refl)
-first_said t (y ∷ xs) x some is =
-    ap (λ (z : StoredAttribute). said t z ∷ all_said t xs) (sym is)
-    ∙ ap (λ (zs : List StoredAttribute). said t x ∷ all_said t zs) (sym (take_all (length (y ∷ xs) - 1) xs (omega arith)))
+first_said t xs x h k = grind (arith, take_all)
 
 -- those before the last, and the last
 pub last_said : (t : Tables) (xs : List StoredAttribute) (x : StoredAttribute) → (length xs ≡ 0 → ⊥) → x ≡ get_or xs (length xs - 1) x
@@ -65,8 +61,7 @@ all_reach n us (x ∷ xs) h = (reach_within n (data_of x).namespace h.0, all_rea
 all_numbered : (m n : ℕ) (xs : List StoredAttribute) → AreNumbered n xs → explicit_count xs + n ≤ m → AllByRecursion (λ (r : StoredAttribute). place_bound r ≤ m) xs
 all_numbered m n [] h w = tt
 all_numbered m n (x ∷ xs) h w =
-    let one : ℕ = if x.before == 255 then 1 else 0 in
-    (first (x.before == 255) x.place h.0 (omega (arith, w)), all_numbered m (one + n) xs h.1 (omega (arith, w)))
+    (first (x.before == 255) x.place h.0 (omega (arith, w)), all_numbered m ((if x.before == 255 then 1 else 0) + n) xs h.1 (omega (arith, w)))
   where
     first : (b : Bool) (p : ℕ) → (b ≡ true → p ≡ n) → (if b then 1 else 0) + n ≤ m → (if b then p + 1 else 0) ≤ m
     first true p is le = let e = is refl in omega (arith, e, le)

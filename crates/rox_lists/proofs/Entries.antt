@@ -6,7 +6,6 @@ use Rattle.rox_rows.specs.Rows.{NamespaceWithin}
 use Rattle.rox_scopes.specs.NamespaceViews.{namespace_view}
 use Rattle.rox_scopes.specs.declared.namespace.Namespace.{Namespace}
 use Rattle.rox_rows.specs.declared.row.AttributeNamespace.{AttributeNamespace}
-use Rattle.rox_rows.specs.declared.row.AttributeNamespace.TheVariants as space
 use Rattle.rox_lists.specs.NamespaceBound.{namespace_bound}
 
 -- a namespace's row is the entry of its place
@@ -20,6 +19,4 @@ entry_uri ns i x l e = ap (λ d. d.uri) (entry_is ns i x l e)
 
 -- what is named in a table is within its length
 pub reach_within : (n : ℕ) (s : AttributeNamespace) → NamespaceWithin n s → namespace_bound s ≤ n
-reach_within n space.None w = omega arith
-reach_within n space.Xml w = omega arith
-reach_within n (space.Listed i) w = omega (arith, w)
+reach_within n s h = grind arith

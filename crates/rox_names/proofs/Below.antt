@@ -35,7 +35,6 @@ hidden_in namespaces seen ls seen_ls scopes mid above own i xml n l x = rw (scop
 pub joined_listed : (namespaces : List NamespaceDecl) (listed after : List ℕ) (old mid next new : List Scope) (rest first i : ℕ) (os ds : List NamespaceDecl) → IsListed namespaces listed old listed mid rest os → IsListed namespaces listed mid after next first ds
     → IsRope next new i (λ l. places_in l next first ++ places_in l next rest) → IsListed namespaces listed old after new i (ds ++ os)
 joined_listed namespaces listed after old mid next new rest first i os ds x y z =
-    let kept : entries namespaces (places_in after next rest) ≡ os = grind (arith, places_in-grown, places_in-listed) in
     record {
       more = y.more;
       grown = y.grown;
@@ -45,7 +44,7 @@ joined_listed namespaces listed after old mid next new rest first i os ds x y z 
       scopes_are = record { rows = z.rows; within = z.ends (length after) y.scopes_are.within };
       within = z.within;
       lists = ap (entries namespaces) (z.lists after y.scopes_are) ∙ map-append (namespace_at namespaces) (places_in after next first) (places_in after next rest)
-          ∙ ap (λ xs. xs ++ entries namespaces (places_in after next rest)) y.lists ∙ ap (λ xs. ds ++ xs) kept;
+          ∙ ap (λ xs. xs ++ entries namespaces (places_in after next rest)) y.lists ∙ ap (λ xs. ds ++ xs) (grind (arith, places_in-grown, places_in-listed));
     }
 
 -- ---- the tables
@@ -137,7 +136,6 @@ pub has_scope : (o n : ElementTables) (above own i : ℕ) (xml : Bool) → HasOp
 has_scope o n above own i xml tag same attributes kept present x =
     let namespaces = map namespace_view o.namespaces.items.items in
     let mine = entries namespaces (drop own o.listed.items) in
-    let names_are = ap (λ v. map namespace_view v.items.items) same in
     let h = scopes_more own (length o.listed.items) o.scopes.items tag.own_within tag.scopes in
     let l = lists_then namespaces o.listed.items n.listed.items o.scopes.items n.scopes.items i (mine ++ others mine xml (scope_at (lists_in o) above)) h x in
     let lists : scope_at (lists_in n) i ≡ mine ++ others mine xml (scope_at (lists_in o) above) = grind (arith, scope_places) in
@@ -145,7 +143,7 @@ has_scope o n above own i xml tag same attributes kept present x =
       namespaces = same;
       attributes = attributes;
       more = l.0;
-      lists_more = ap (λ ns. lists_of ns n.listed.items n.scopes.items) names_are ∙ l.1;
+      lists_more = ap (λ ns. lists_of ns n.listed.items n.scopes.items) (ap (λ v. map namespace_view v.items.items) same) ∙ l.1;
       places = subst (λ v. ArePlaces (length v.items.items) n.listed.items) (sym same) (scope_behind o n.listed.items n.scopes.items i _ tag.places x).places;
       scopes = x.scopes_are;
       within = x.within;

@@ -179,12 +179,10 @@ pub once_after : (old rows : List Namespace) (listed after : List ℕ) (d : Name
 once_after old rows listed after d place own grown push own_in ok is absent once =
     let namespaces = map namespace_view old in
     let front = with_new-front namespaces (d ∷ []) in
-    let was = length-map old namespace_view in
-    let mine : ArePlaces (length namespaces) (drop own listed) = rw was (all_drop (λ i. i < length old) own listed ok) in
+    let mine : ArePlaces (length namespaces) (drop own listed) = rw (length-map old namespace_view) (all_drop (λ i. i < length old) own listed ok) in
     let stays : entries (map namespace_view rows) (drop own listed) ≡ entries namespaces (drop own listed) =
     ap (λ ns. entries ns (drop own listed)) (grown ∙ front.1) ∙ map_same (namespace_at (namespaces ++ front.0)) (namespace_at namespaces) (λ i. i < length namespaces) (drop own listed) (namespace_at-append namespaces front.0) mine in
-    let whole : entries (map namespace_view rows) (drop own after) ≡ entries namespaces (drop own listed) ++ d ∷ [] = grind (arith, drop-append-le, map-append) in
-    subst PrefixesOnce (sym whole) (once_more (entries namespaces (drop own listed)) d once absent)
+    subst PrefixesOnce (sym (grind (arith, drop-append-le, map-append))) (once_more (entries namespaces (drop own listed)) d once absent)
 
 -- nothing is listed yet
 pub once_none : (namespaces : List NamespaceDecl) (listed : List ℕ) (own : ℕ) → own ≡ length listed → PrefixesOnce (entries namespaces (drop own listed))

@@ -56,10 +56,7 @@ repeated_is namespaces scope s n [] (b ∷ bs) is h = cc h
 repeated_is namespaces scope s n (d ∷ ds) [] is h = cc h
 repeated_is namespaces scope s n (d ∷ ds) (b ∷ bs) is h =
     let first : attribute namespaces d ≡ attribute_in scope b = cc h in
-    let rest : map (attribute namespaces) ds ≡ map (attribute_in scope) bs = cc h in
-    let space : attribute_uri namespaces d.0.namespace ≡ attribute_namespace scope b.name = ap (λ (r : tree.Attribute). r.namespace) first in
-    let local : d.0.local.now ≡ b.name.local = ap (λ (r : tree.Attribute). r.local) first in
-    rw (space, local, is, repeated_is namespaces scope s n ds bs is rest) refl
+    rw ((ap (λ (r : tree.Attribute). r.namespace) first), (ap (λ (r : tree.Attribute). r.local) first), is, repeated_is namespaces scope s n ds bs is (cc h)) refl
 
 -- ---- what a test of one name says of all
 

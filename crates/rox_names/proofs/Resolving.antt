@@ -63,9 +63,8 @@ record Stands (initial now : List UnresolvedAttribute) (k : ℕ) (t : Unresolved
 stands_at : (initial now : List UnresolvedAttribute) (k : ℕ) (t : UnresolvedAttribute) → drop k now ≡ drop k initial → length now ≡ length initial → k < length now → t ≡ get_or now k t → Stands initial now k t
 stands_at initial now k t left long lt is =
     let within : k < length initial = omega arith in
-    let dn : drop k now ≡ get_or now k t ∷ drop (k + 1) now = rw (add-one, drop-cons now k t) refl in
     let di : drop k initial ≡ get_or initial k t ∷ drop (k + 1) initial = rw (add-one, drop-cons initial k t) refl in
-    let both : get_or now k t ∷ drop (k + 1) now ≡ get_or initial k t ∷ drop (k + 1) initial = sym dn ∙ left ∙ di in
+    let both : get_or now k t ∷ drop (k + 1) now ≡ get_or initial k t ∷ drop (k + 1) initial = sym (rw (add-one, drop-cons now k t) refl) ∙ left ∙ di in
     let here : t ≡ get_or initial k t = is ∙ cc both in
     grind (arith, take_more)
 
@@ -95,11 +94,9 @@ pub resolves : (n : ℕ) (namespaces scope : List NamespaceDecl) (initial : List
     → Resolving namespaces scope initial old (k + 1) more
 resolves n namespaces scope initial old k now table t u s row more m h lt is step space looked made grown =
     let st = stands_at initial now k t m.left m.long lt is in
-    let before = map unresolved_view (take k initial) in
     let rest = map unresolved_view (drop (k + 1) initial) in
-    let same : u ≡ t = looked ∙ sym (get_or_read now k t lt is u) in
-    let made_of : row ≡ row_of_unresolved t s = made ∙ ap (λ (v : UnresolvedAttribute). row_of_unresolved v s) same in
-    let views : map unresolved_view (take (k + 1) initial) ≡ before ++ unresolved_view t ∷ [] =
+    let made_of : row ≡ row_of_unresolved t s = made ∙ ap (λ (v : UnresolvedAttribute). row_of_unresolved v s) (looked ∙ sym (get_or_read now k t lt is u)) in
+    let views : map unresolved_view (take (k + 1) initial) ≡ (map unresolved_view (take k initial)) ++ unresolved_view t ∷ [] =
     ap (map unresolved_view) st.front ∙ map-append unresolved_view (take k initial) (t ∷ []) in
     let now_behind : drop (length old) more ≡ drop (length old) table ++ row ∷ [] =
     behind old (m.done ++ row ∷ []) more (grown ∙ ap (λ xs. xs ++ row ∷ []) m.table_is ∙ append_assoc old m.done (row ∷ []))

@@ -9,8 +9,7 @@ use Rattle.std.proofs.lemmas.Str.{chars-append, encodes-chars, length-encode, le
 use Rattle.rox_grammar.specs.Chars.{is_name_start, is_name_char, is_part_char}
 use Rattle.rox_grammar.specs.Names.{IsNCName, IsQName, unprefixed, prefixed, colon_first}
 use Rattle.rox_grammar.specs.Runs.{run_end, begins, passing, first_passes}
-use Rattle.rox_grammar.specs.Written.{Name}
-use Rattle.rox_grammar.specs.Written.{NamespaceDecl}
+use Rattle.rox_grammar.specs.Written.{Name, NamespaceDecl}
 use Rattle.rox_grammar.specs.FixedTexts.{word_text}
 use Rattle.rox_grammar.specs.Tree.{listed}
 use Rattle.rox_grammar.specs.Failures.{name_view}
@@ -57,13 +56,12 @@ all_pass p [] ds es h none = none
 all_pass p (c ∷ cs) ds es h none =
     let n = length-append (encode_utf8 c) (encode_utf8_all cs) in
     let m = length-encode c in
-    let bounds = len_utf8_bounds c in
     elim (cases_Bool (p c)) as (λ s. passing p (c ∷ (cs ++ es)) ≡ length (encode_utf8 c ++ encode_utf8_all cs)) [
       | inl passes ↦ (
           let h' : len_utf8 c + passing p (cs ++ ds) ≡ length (encode_utf8 c ++ encode_utf8_all cs) = rw passes at h in
           let ih = all_pass p cs ds es (omega arith) none in
           rw passes (omega arith))
-      | inr fails ↦ (let h' : 0 ≡ length (encode_utf8 c ++ encode_utf8_all cs) = rw fails at h in absurd (omega (arith, bounds.0)))
+      | inr fails ↦ (let h' : 0 ≡ length (encode_utf8 c ++ encode_utf8_all cs) = rw fails at h in absurd (omega (arith, (len_utf8_bounds c).0)))
     ]
 
 none_pass : (p : ℕ → Bool) (src : List ℕ) (i : ℕ) → IsUtf8 src → i < length src → slice_index src i < 128 → p (slice_index src i) ≡ false → passing p (chars (drop i src)) ≡ 0
@@ -83,8 +81,7 @@ run_same p src dst i j n us ud cut is same within ascii fails =
     let a : chars (drop i src) ≡ chars w ++ chars (drop n (drop i src)) = ap chars (sym (take-append-drop n (drop i src))) ∙ chars-append w (drop n (drop i src)) text in
     let b : chars (drop j dst) ≡ chars w ++ chars (drop n (drop j dst)) =
     ap chars (sym (take-append-drop n (drop j dst)) ∙ ap (λ xs. xs ++ drop n (drop j dst)) (sym same)) ∙ chars-append w (drop n (drop j dst)) text in
-    let count : passing p (chars (drop i src)) ≡ n = omega arith in
-    let passes : passing p (chars w ++ chars (drop n (drop i src))) ≡ length (encode_utf8_all (chars w)) = sym (ap (passing p) a) ∙ count ∙ sym enc in
+    let passes : passing p (chars w ++ chars (drop n (drop i src))) ≡ length (encode_utf8_all (chars w)) = sym (ap (passing p) a) ∙ (omega arith) ∙ sym enc in
     let none : passing p (chars (drop n (drop j dst))) ≡ 0 = ap (λ xs. passing p (chars xs)) (drop-drop n j dst) ∙ none_pass p dst (j + n) ud within ascii fails in
     ap (λ (k : ℕ). j + k) (ap (passing p) b ∙ all_pass p (chars w) (chars (drop n (drop i src))) (chars (drop n (drop j dst))) passes none ∙ enc)
 
@@ -109,12 +106,10 @@ begins_same p src dst i j n us cut there more same =
 part_same : (src dst : List ℕ) (i j n e b : ℕ) → IsUtf8 src → IsUtf8 dst → IsCharBoundary src i → IsNCName src i e → e ≡ i + n → take n (drop i src) ≡ take n (drop j dst)
     → slice_index dst (j + n) ≡ b → 0 < b → b < 128 → is_part_char b ≡ false → IsNCName dst j (j + n)
 part_same src dst i j n e b us ud cut is at same stop some ascii fails =
-    let long = (ncname_parts is).longest in
-    let run : run_end is_part_char src i ≡ i + n = sym long ∙ at in
+    let run : run_end is_part_char src i ≡ i + n = sym ((ncname_parts is).longest) ∙ at in
     let there : IsCharBoundary src (i + n) = subst (IsCharBoundary src) run (run_cut is_part_char src i us cut) in
     let more = part_some src i us cut (ncname_parts is).starts (ncname_parts is).no_colon in
-    let first : slice_index src (i + 0) ≡ slice_index dst (j + 0) = one_of src dst i j n 0 same (omega arith) in
-    let first' : slice_index src i ≡ slice_index dst j = rw (add-zero i, add-zero j) at first in
+    let first' : slice_index src i ≡ slice_index dst j = rw (add-zero i, add-zero j) at (one_of src dst i j n 0 same (omega arith)) in
     ncname_made (record {
       starts = begins_same is_name_start src dst i j n us cut there (omega arith) same ∙ (ncname_parts is).starts;
       no_colon = λ c. (ncname_parts is).no_colon (first' ∙ c);
@@ -155,11 +150,10 @@ name_same src dst i j n e name us ud cut (prefixed _ k _ front colon part last) 
     let ik : i + m ≡ k = omega arith in
     let ir : i + (m + 1) ≡ k + 1 = omega arith in
     let jr : j + (m + 1) ≡ j + m + 1 = omega arith in
-    let front_same : take m (drop i src) ≡ take m (drop j dst) = less (drop i src) (drop j dst) n m same (omega arith) in
     let part_bytes : take r (drop (k + 1) src) ≡ take r (drop (j + m + 1) dst) = rw (ir, jr) at (some_of src dst i j n (m + 1) r same (omega arith)) in
     let colon' : slice_index dst (j + m) ≡ 58 = sym (one_of src dst i j n m same (omega arith)) ∙ ap (slice_index src) ik ∙ colon in
     let end : j + m + 1 + r ≡ j + n = omega arith in
-    let p = part_same src dst i j m k 58 us ud cut front (sym ik) front_same colon' (omega arith) (omega arith) colon_apart in
+    let p = part_same src dst i j m k 58 us ud cut front (sym ik) (less (drop i src) (drop j dst) n m same (omega arith)) colon' (omega arith) (omega arith) colon_apart in
     let q = rw end at (part_same src dst (k + 1) (j + m + 1) r e 62 us ud behind part (omega arith) part_bytes (rw end stop) (omega arith) (omega arith) close_apart) in
     let s = slice_same src dst i j n 0 m i k j (j + m) same (omega arith) (omega arith) (omega arith) (omega arith) refl in
     let t = slice_same src dst i j n (m + 1) r (k + 1) e (j + m + 1) (j + n) same (omega arith) (omega arith) (omega arith) (omega arith) (sym end) in
@@ -170,13 +164,11 @@ name_same src dst i j n e name us ud cut (colon_first _ _ colon part last) at sa
     let some' : i + 1 < e = rw (ncname_parts part).longest (part_some src (i + 1) us behind (ncname_parts part).starts (ncname_parts part).no_colon) in
     let r = e - (i + 1) in
     let part_bytes : take r (drop (i + 1) src) ≡ take r (drop (j + 1) dst) = some_of src dst i j n 1 r same (omega arith) in
-    let first : slice_index src (i + 0) ≡ slice_index dst (j + 0) = one_of src dst i j n 0 same (omega arith) in
-    let first' : slice_index src i ≡ slice_index dst j = rw (add-zero i, add-zero j) at first in
-    let colon' : slice_index dst j ≡ 58 = sym first' ∙ colon in
+    let first' : slice_index src i ≡ slice_index dst j = rw (add-zero i, add-zero j) at (one_of src dst i j n 0 same (omega arith)) in
     let end : j + 1 + r ≡ j + n = omega arith in
     let q = rw end at (part_same src dst (i + 1) (j + 1) r e 62 us ud behind part (omega arith) part_bytes (rw end stop) (omega arith) (omega arith) close_apart) in
     let t = slice_same src dst i j n 1 r (i + 1) e (j + 1) (j + n) same (omega arith) refl (omega arith) refl (sym end) in
-    subst (λ (l : List ℕ). IsQName dst j (record { prefix = []; local = l }) (j + n)) t (colon_first j (j + n) colon' q (λ c. omega (arith, stop, c)))
+    subst (λ (l : List ℕ). IsQName dst j (record { prefix = []; local = l }) (j + n)) t (colon_first j (j + n) (sym first' ∙ colon) q (λ c. omega (arith, stop, c)))
 
 pub named_same : (src dst : List ℕ) (i j n : ℕ) (name : Name) → IsUtf8 src → IsUtf8 dst → IsCharBoundary src i → qname_at src i ≡ Ok (name, i + n) → take n (drop i src) ≡ take n (drop j dst)
     → slice_index dst (j + n) ≡ 62 → qname_at dst j ≡ Ok (name, j + n)
@@ -207,7 +199,6 @@ opened_named context cut above count known src i openings_left r j t o utf8 here
     let n = name_length o in
     let view : open_name o ≡ r.tag.name = by.name ∙ name in
     let long : n ≡ r.tag.name_end - (i + 1) = by.kept.counted ∙ ap (λ (e : ℕ). e - t.name_start) name_end ∙ ap (λ (k : ℕ). r.tag.name_end - k) name_start in
-    let at : r.tag.name_end ≡ i + 1 + n = omega arith in
-    let named' : qname_at src (i + 1) ≡ Ok (r.tag.name, i + 1 + n) = named ∙ ap (λ (e : ℕ). Ok (r.tag.name, e)) at in
+    let named' : qname_at src (i + 1) ≡ Ok (r.tag.name, i + 1 + n) = named ∙ ap (λ (e : ℕ). Ok (r.tag.name, e)) (omega arith) in
     let bytes : take n o.source.now ≡ take n (drop (i + 1) src) = by.kept.bytes ∙ rw (name_end, name_start, ← long) refl in
     grind (arith, named_same)

@@ -1,5 +1,5 @@
 -- A set of expanded names.
-use Rattle.std.proofs.Common.{◌≡◌, ℕ, ◌||◌, ◌&&◌, Bool, false, List, [], ◌∷◌, refl, sym, ap, ◌∙◌, Option, Some, None, Bor, bytes_eq}
+use Rattle.std.proofs.Common.{◌≡◌, ℕ, ◌||◌, ◌&&◌, Bool, false, List, [], ◌∷◌, refl, sym, ap, ◌∙◌, Option, Some, None, Bor, bytes_eq, ◌++◌, map, drop, length, subst, arith}
 use Rattle.std.specs.List.{list_any}
 use Rattle.std.specs.declared.cmp.Ordering.{Ordering}
 use Rattle.std.specs.Ordering.{is_eq, match_ordering, nat_cmp, ordering_then}
@@ -12,7 +12,6 @@ use Rattle.rox_grammar.specs.Tree.{same_prefix}
 use Rattle.rox_scopes.specs.Scopes.{prefix_view}
 use Rattle.rox_scopes.proofs.Listing.{same_prefix-sym}
 use Rattle.rox_names.specs.ExpandedNames.{Key, is_key, has_key, HasExpandedNames}
-use Rattle.std.proofs.Common.{◌++◌, map, drop, length, subst, arith}
 use Rattle.std.proofs.Math.ListN.{drop_of_length-le}
 use Rattle.std.proofs.Math.Seq.{drop-append_seam}
 use Rattle.std.proofs.lemmas.List.{append_assoc, map-append}

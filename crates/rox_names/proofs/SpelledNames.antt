@@ -65,9 +65,8 @@ name_spelled src i name e utf8 cut (prefixed _ k _ front colon part last) =
     let at : i + (k - i) ≡ k = omega arith in
     let bs = slice_range src i e in
     let there : before_colon bs ≡ k - i = grind (arith, position_or_len_is, slice_byte, no_colon) in
-    let p : take (k - i) bs ≡ slice_range src i k = take-take (k - i) (e - i) (drop i src) (omega arith) in
     let l : drop (k - i + 1) bs ≡ slice_range src (k + 1) e = slice_rest src i e (k - i + 1) (k + 1) (omega arith) (omega arith) in
-    spelled_parts bs (omega arith) ∙ rw (there, p, l) refl
+    spelled_parts bs (omega arith) ∙ rw (there, (take-take (k - i) (e - i) (drop i src) (omega arith)), l) refl
 name_spelled src i name e utf8 cut (colon_first _ _ colon part last) =
     let inside = name_inside src i (record { prefix = []; local = slice_range src (i + 1) e }) e utf8 cut (colon_first i e colon part last) in
     let long = slice_long src i e inside in

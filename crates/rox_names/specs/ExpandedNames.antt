@@ -1,12 +1,10 @@
 -- The expanded names of the attributes of a tag, as a set of keys: a local name, and a URI or none.
-use Rattle.std.specs.Prelude.{◌≡◌, ℕ, ◌&&◌, ◌||◌, false, Bool, List, Option, bytes_eq}
+use Rattle.std.specs.Prelude.{◌≡◌, ℕ, ◌&&◌, ◌||◌, false, Bool, List, Option, bytes_eq, ◌++◌, ◌∷◌, [], Result, Ok, Err}
 use Rattle.std.specs.List.{list_any}
 use Rattle.std.specs.Borrow.{Bor}
-use Rattle.rox_grammar.specs.Written.{NamespaceDecl}
+use Rattle.rox_grammar.specs.Written.{NamespaceDecl, Attribute}
 use Rattle.rox_grammar.specs.Tree.{same_prefix}
 use Rattle.rox_scopes.specs.Scopes.{prefix_view}
-use Rattle.std.specs.Prelude.{◌++◌, ◌∷◌, [], Result, Ok, Err}
-use Rattle.rox_grammar.specs.Written.{Attribute}
 use Rattle.rox_reading.specs.Tags.{names_tested}
 use Rattle.rox_grammar.specs.declared.failure.Failure.{Failure}
 use Rattle.rox_grammar.specs.Failures.{Fails}

@@ -13,11 +13,10 @@ use Rattle.rox_grammar.specs.Written.{Attribute, Name, NamespaceDecl}
 use Rattle.rox_scopes.specs.Bindings.{FindsBinding, LooksWithin}
 use Rattle.rox_names.specs.ExpandedNames.{HasExpandedNames, Key, TestedOr}
 use Rattle.rox_names.specs.ResolvedNames.{AddsNew, IsNamespaceOf, Tested}
-use Rattle.rox_seen.specs.SeenNames.{has_expanded}
+use Rattle.rox_seen.specs.SeenNames.{has_expanded, HasNameOf, KeepsCodes, PutsSeen, SeesName}
 use Rattle.rox_rows.specs.Rows.{AttributeRow, NamespaceWithin, attribute}
 use Rattle.rox_reading.specs.AtIndex.{OptionWithin, namespace_at}
 use Rattle.rox_scopes.specs.NamespaceViews.{namespace_view}
-use Rattle.rox_seen.specs.SeenNames.{HasNameOf, KeepsCodes, PutsSeen, SeesName}
 use Rattle.rox_rows.specs.StoredAttributes.{data_of}
 use Rattle.rox_names.specs.TagDeclarations.{unresolved_view}
 use Rattle.rox_scopes.specs.declared.bindings.PrefixBindings.{PrefixBindings}

@@ -48,9 +48,7 @@ reaches up left b (Cons x c r) (suc k) a l h =
           ]
       | inr high ↦
           let m = k - size c in
-          let e : k ≡ length below + m = omega arith in
-          let same : at (below ++ beside) k ≡ at beside m = ap (at (below ++ beside)) e ∙ right_of m in
-          let here = subst (λ (p : Place). Contains p.above a) same h in
+          let here = subst (λ (p : Place). Contains p.above a) (ap (at (below ++ beside)) (omega arith) ∙ right_of m) h in
           elim (reaches up (b ∷ left) (b + (1 + size c)) r m a (omega arith) here) [
             | inl above ↦ inl above
             | inr r ↦ inr (suc (length below + r.0), omega (arith, r.1), omega (arith, r.2), (rw (right_of r.0) (omega (arith, r.3))))

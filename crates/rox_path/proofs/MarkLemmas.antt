@@ -84,8 +84,7 @@ last_same [] [] x y e = (refl, cc)
 last_same [] (z ∷ ys) x y e = absurd (omega (arith, ap length e, length-append ys (y ∷ [])))
 last_same (z ∷ xs) [] x y e = absurd (omega (arith, ap length e, length-append xs (x ∷ [])))
 last_same (z ∷ xs) (w ∷ ys) x y e =
-    let rest : xs ++ x ∷ [] ≡ ys ++ y ∷ [] = cc in
-    let k = last_same xs ys x y rest in
+    let k = last_same xs ys x y cc in
     (let f = k.0 in cc, k.1)
 
 match_nothing : (tree : Forest Node) (start : ℕ) (all : List PathStep) (id : ℕ) → Match tree start all id → all ≡ [] → id ≡ start
@@ -205,8 +204,7 @@ none_before : (top p : ℕ) (marks : List Bool) → p < top → (xs : List ℕ) 
 none_before top p marks l [] h = refl
 none_before top p marks l (x ∷ xs) h =
     let low = h x (in_front x xs) in
-    let none : is_marked top marks x ≡ false = unmarked top x marks (omega arith) in
-    rw none (none_before top p marks l xs (λ a k. h a (behind x a xs k)))
+    rw (unmarked top x marks (omega arith)) (none_before top p marks l xs (λ a k. h a (behind x a xs k)))
 
 none_above : (p : ℕ → Bool) (xs : List ℕ) → first xs ≡ None → list_any p xs ≡ false
 none_above p [] e = refl
@@ -216,13 +214,12 @@ none_above p (x ∷ xs) e = cc
 pub below_by_parent : (doc : DocumentView) (top id p : ℕ) (marks below : List Bool) → Laws doc.tree → id < size doc.tree → parent doc.tree id ≡ Some p → id ≡ top + length below
     → below ≡ marks_by (is_below top marks) doc top (length below) → (is_marked top marks p || is_marked top below p) ≡ is_below top marks (doc, id)
 below_by_parent doc top id p marks below laws l e is by =
-    let up = laws.parents id p l e in
     let before = (above_around doc.tree id p (parent_above doc.tree id p e)).1 in
     let same : is_marked top below p ≡ is_below top marks (doc, p) = elim (cases_lt p top) [
       | inl outside ↦ unmarked top p below outside ∙ sym (none_before top p marks outside (place doc.tree p).above (λ a h. (above_around doc.tree p a h).1))
       | inr inside ↦ ap (λ (m : List Bool). is_marked top m p) by ∙ marked_inside (is_below top marks) doc top (length below) p inside (omega arith)
     ] in
-    rw (up, same) refl
+    rw ((laws.parents id p l e), same) refl
 
 pub none_without_parent : (doc : DocumentView) (top id : ℕ) (marks : List Bool) → parent doc.tree id ≡ None → is_below top marks (doc, id) ≡ false
 none_without_parent doc top id marks e = none_above (is_marked top marks) (place doc.tree id).above e

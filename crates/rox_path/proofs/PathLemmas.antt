@@ -44,9 +44,8 @@ stops c = c == 47 || c == 123 || c == 125
 ends_here : (text : List ℕ) (n : ℕ) → stops (byte text n) ≡ true → local_end text n ≡ n
 unfolding byte_from
 ends_here text n is =
-    let read = get_or-drop n text 0 0 in
     let same : n + 0 ≡ n = omega arith in
-    let here : stops (get_or (drop n text) 0 0) ≡ true = rw (read, same) is in
+    let here : stops (get_or (drop n text) 0 0) ≡ true = rw ((get_or-drop n text 0 0), same) is in
     let first : position_or_len stops (drop n text) ≡ 0 = position_or_len_is stops (drop n text) 0 0 (omega arith) (λ k l. absurd (omega arith)) (λ l. here) in
     omega (arith, first)
 

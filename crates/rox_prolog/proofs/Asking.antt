@@ -74,5 +74,4 @@ module _ (src : List ℕ) (d : Dtd) (head : EntityHead × ℕ) (is_head : entity
     pub entity_read : (x : Unit {0}) (k : ℕ) → byte_at 62 src (spaces_end src j) ≡ Ok (x, k) → Answered (entity_run src d) asked (declared_there d head.0 text k)
     unfolding entity_step
     entity_read x k e more =
-        let r = h more in
-        rw (is_head, is, r, e) (ap (λ (l : List Asked). (l, Ok (left_with more (declared_there d head.0 text k)))) (append-nil asked))
+        rw (is_head, is, (h more), e) (ap (λ (l : List Asked). (l, Ok (left_with more (declared_there d head.0 text k)))) (append-nil asked))

@@ -175,9 +175,8 @@ module _ (limit end i n m : ℕ) (src : List ℕ) (allows : Request → Reply �
 
         pub passed_stops : (f : Fault) → is_skipped_declaration c.text.now c.pos ≡ true → skipped_declaration_at i c.text.now c.pos ≡ Err f → Stops run going.asked (here f)
         passed_stops f is h =
-            let stop = byte_from (λ k. k == 62) src s.at in
             let k : skipped_declaration_at i src s.at ≡ Err f = rw (same, place) at h in
-            chosen (ltb stop (length src)) _ _ _ k (λ closes r. cc)
+            chosen (ltb (byte_from (λ k. k == 62) src s.at) (length src)) _ _ _ k (λ closes r. cc)
             (λ out r. rw (same_fault _ _ r)
             (turn.passed_stops run going.asked limit i n m src d going.continues one inside (found word.EntityStart false no_entity) (found word.CommentStart false no_comment)
             (found word.PIStart false no_instruction) (skipped true is) (ltb-false _ _ out)))
@@ -185,10 +184,9 @@ module _ (limit end i n m : ℕ) (src : List ℕ) (allows : Request → Reply �
         module _ (no_skipped : is_skipped_declaration c.text.now c.pos ≡ false) where
           pub unknown_stops : (slice_index c.text.now c.pos == 93) ≡ false → Stops run going.asked (here (fault.UnknownToken c.pos))
           unknown_stops other =
-              let o : (slice_index src s.at == 93) ≡ false = rw (same, place) at other in
               rw place
               (turn.unknown_stops run going.asked limit i n m src d going.continues one inside (found word.EntityStart false no_entity) (found word.CommentStart false no_comment)
-              (found word.PIStart false no_instruction) (skipped false no_skipped) o)
+              (found word.PIStart false no_instruction) (skipped false no_skipped) (rw (same, place) at other))
 
           module _ (is : slice_index c.text.now c.pos ≡ 93) where
             bracket : slice_index src s.at ≡ 93

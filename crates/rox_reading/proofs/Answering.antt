@@ -1,7 +1,7 @@
 -- What comes of a reading of a document type declaration, turn by turn, whatever replies follow those that it takes.
-use Rattle.std.proofs.Common.{◌≡◌, ℕ, suc, ◌+◌, ◌<◌, ◌≤◌, ◌||◌, ◌==◌, Bool, true, false, List, [], ◌∷◌, ◌++◌, length, refl, sym, ap, ◌∙◌, Ok, Err, append_assoc, le-leb}
+use Rattle.std.proofs.Common.{◌≡◌, ℕ, suc, ◌+◌, ◌<◌, ◌≤◌, ◌||◌, ◌==◌, Bool, true, false, List, [], ◌∷◌, ◌++◌, length, refl, sym, ap, ◌∙◌, Ok, Err, append_assoc, le-leb, arith}
 use Rattle.std.specs.Prelude.{slice_index}
-use Rattle.std.proofs.lemmas.Bool.{lt-leb, lt-ltb, le-ltb, eq-eqb}
+use Rattle.std.proofs.lemmas.Bool.{lt-leb, le-ltb, eq-eqb}
 use Rattle.std.proofs.lemmas.List.{append-nil}
 use Rattle.rox_grammar.specs.declared.fault.Fault.{Fault}
 use Rattle.rox_grammar.specs.declared.fault.Fault.TheVariants as fault
@@ -118,9 +118,7 @@ module _ (run : List Reply → Asks Dtd) (asked : List Asked) (limit i n m : ℕ
           -- A declaration that is passed over up to its `>`.
           pub turn_passed : is_skipped ≡ true → byte_from (λ c. c == 62) src s.at < length src → Continues run asked limit i m src (with_state d (at_place (byte_from (λ c. c == 62) src s.at + 1) d.state))
           unfolding subset skipped_declaration
-          turn_passed is closes =
-              let k = lt-leb _ _ inside in let l = lt-ltb _ _ closes in
-              goes_plainly (with_state d (at_place (byte_from (λ c. c == 62) src s.at + 1) d.state)) (λ more. rw (one, k, no_entity, no_comment, no_instruction, is, l) refl)
+          turn_passed is closes = grind arith
 
           pub passed_stops : is_skipped ≡ true → length src ≤ byte_from (λ c. c == 62) src s.at → Stops run asked (here (fault.UnknownToken i))
           unfolding subset skipped_declaration
@@ -154,8 +152,7 @@ module _ (run : List Reply → Asks Dtd) (asked : List Asked) (limit i n m : ℕ
             pub unknown_stops : (slice_index src s.at == 93) ≡ false → Stops run asked (here (fault.UnknownToken s.at))
             unfolding subset
             unknown_stops other =
-                let k = lt-leb _ _ inside in
-                stops_plainly (here (fault.UnknownToken s.at)) (λ more. rw (one, k, no_entity, no_comment, no_instruction, no_skipped, other) refl)
+                stops_plainly (here (fault.UnknownToken s.at)) (λ more. rw (one, (lt-leb _ _ inside), no_entity, no_comment, no_instruction, no_skipped, other) refl)
 
 -- As many items are read as there may be.
 pub turn_spent : (run : List Reply → Asks Dtd) (asked : List Asked) (limit i n : ℕ) (src : List ℕ) (d : Dtd) → Continues run asked limit i n src d → n ≡ 0 → Answered run asked d
@@ -165,5 +162,4 @@ turn_spent run asked limit i n src d on none more = on more ∙ rw none (ap (λ 
 -- What comes of the rest comes of all.
 pub continued : (run : List Reply → Asks Dtd) (first asked : List Asked) (limit i n : ℕ) (src : List ℕ) (d e : Dtd) → Continues run first limit i n src d
     → Answered (λ rs. subset limit i n src (left_with rs d)) asked e → Answered run (first ++ asked) e
-continued run first asked limit i n src d e on h more =
-    ap run (replies_then first asked more) ∙ on (replies_of asked ++ more) ∙ ap (λ (r : Asks Dtd). having_asked first r) (h more)
+continued run first asked limit i n src d e on h more = grind (arith, replies_then)

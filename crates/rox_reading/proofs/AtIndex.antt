@@ -1,5 +1,5 @@
 -- What is at an index stays as the table grows.
-use Rattle.std.proofs.Common.{◌≡◌, ℕ, zero, suc, ◌<◌, ◌≤◌, List, [], ◌∷◌, ◌++◌, length, refl, arith, Option, Some, None}
+use Rattle.std.proofs.Common.{◌≡◌, ℕ, zero, suc, ◌<◌, ◌≤◌, List, [], ◌∷◌, ◌++◌, length, refl, arith, Option}
 use Rattle.rox_grammar.specs.Written.{NamespaceDecl}
 use Rattle.rox_reading.specs.AtIndex.{namespace_at, scope_at, OptionWithin}
 
@@ -14,5 +14,4 @@ scope_at-append (l ∷ ls) more zero h = refl
 scope_at-append (l ∷ ls) more (suc i) h = scope_at-append ls more i (omega arith)
 
 pub option_more : (n m : ℕ) (o : Option ℕ) → n ≤ m → OptionWithin n o → OptionWithin m o
-option_more n m None le within = tt
-option_more n m (Some i) le within = omega arith
+option_more n m o h k = grind arith

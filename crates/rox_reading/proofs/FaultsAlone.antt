@@ -1,24 +1,23 @@
 -- After the document type declaration a text is refused by its own faults alone: nothing is asked there.
-use Rattle.std.proofs.Common.{◌≡◌, refl, ap, subst, ℕ, zero, suc, ◌+◌, ◌-◌, ◌==◌, not, Bool, true, false, cond, nat_lt, nat_le, List, [], length, Result, Ok, Err}
+use Rattle.std.proofs.Common.{◌≡◌, subst, ℕ, zero, suc, ◌+◌, ◌-◌, ◌==◌, Bool, true, false, cond, nat_lt, nat_le, List, [], length, Result, Ok, Err, arith}
 use Rattle.std.specs.Prelude.{bytes_eq}
 use Rattle.rox_grammar.specs.declared.fault.Fault.{Fault}
 use Rattle.rox_grammar.specs.declared.fault.Word.TheVariants as word
-use Rattle.rox_grammar.specs.FixedTexts.{word_text, at}
+use Rattle.rox_grammar.specs.FixedTexts.{word_text}
 use Rattle.rox_grammar.specs.Written.{NamespaceDecl}
 use Rattle.rox_grammar.specs.Tree.{listed}
 use Rattle.rox_grammar.specs.Names.{byte, slice}
 use Rattle.rox_grammar.specs.Content.{is_verbatim, is_verbatim_value}
-use Rattle.rox_grammar.specs.Counts.{distinct_pairs}
 use Rattle.rox_grammar.specs.Entities.{Replacement, Entity, most_deep}
-use Rattle.rox_grammar.specs.State.{is_root, scope_of, attributes_so_far, pairs_so_far}
+use Rattle.rox_grammar.specs.State.{is_root}
 use Rattle.rox_reading.specs.Lexical.{◌>>=◌, qname_at}
-use Rattle.rox_reading.specs.Refusals.{Refusal, here, there, refused, lifted, elsewhere}
+use Rattle.rox_reading.specs.Refusals.{Refusal, here, lifted, elsewhere}
 use Rattle.rox_reading.specs.Answering.{IsTextRefusal}
 use Rattle.rox_reading.specs.State.{State, depth_of}
 use Rattle.rox_reading.specs.Markup.{TagItem, more, opened, closed, tag_item_at}
 use Rattle.rox_reading.specs.Values.{Bit, bytes_of, opens, Next, at_end, opening, data_part, part_text, raw_character_data_at, value_bit_at, ValueInclusion, after_value_bit, value_text, value_at}
 use Rattle.rox_reading.specs.Tags.{TagSoFar, Values, TagRest, after_tag_item, attributes_at, taken, attribute_with, tag_tested, tag_at}
-use Rattle.rox_reading.specs.Machine.{Context, with_piece, after_part, data_parts, character_data_step, cut_off_fault, tag_step, step, drive, text_ends, drive_text, budget, value_opener, values_of, opener, main_text}
+use Rattle.rox_reading.specs.Machine.{Context, with_piece, after_part, data_parts, character_data_step, tag_step, step, drive, text_ends, drive_text, budget, value_opener, values_of, opener, main_text}
 use Rattle.rox_reading.specs.WholeText.{misc, body}
 
 -- It is not a refusal of the resolver.
@@ -32,28 +31,22 @@ bad : {A : Type 0} (f : Fault) → Alone A (Err (here f))
 bad f = record { is = λ e h. (let same : here f ≡ e = cc in subst IsTextRefusal same tt) }
 
 pub alone_lifted : {A : Type 0} (r : Result A Fault) → Alone A (lifted r)
-alone_lifted (Ok x) = good x
-alone_lifted (Err f) = bad f
+alone_lifted r = grind arith
 
 -- One after the other.
 alone_bind : {A B : Type 0} (r : Result A Refusal) (f : A → Result B Refusal) → Alone A r → ((x : A) → Alone B (f x)) → Alone B (r >>= f)
-alone_bind (Ok x) f h go = go x
-alone_bind (Err e) f h go = record { is = λ e' same. h.is e' (let is : e ≡ e' = cc in ap Err is) }
+alone_bind r f h k = grind arith
 
 alone_after : {A B : Type 0} (r : Result A Fault) (f : A → Result B Refusal) → ((x : A) → Alone B (f x)) → Alone B (lifted r >>= f)
 alone_after r f go = alone_bind (lifted r) f (alone_lifted r) go
 
 -- A choice.
 alone_cond : {A : Type 0} (b : Bool) (x y : Result A Refusal) → Alone A x → Alone A y → Alone A (cond b x y)
-alone_cond true x y h k = h
-alone_cond false x y h k = k
+alone_cond b x y h k = grind arith
 
 -- Of another source.
 alone_elsewhere : {A : Type 0} (source : List ℕ) (r : Result A Refusal) → Alone A r → Alone A (elsewhere source r)
-alone_elsewhere source (Ok x) h = good x
-alone_elsewhere source (Err (here f)) h = record { is = λ e same. (let is : there source f ≡ e = cc in subst IsTextRefusal is tt) }
-alone_elsewhere source (Err (there s f)) h = record { is = λ e same. (let is : there s f ≡ e = cc in subst IsTextRefusal is tt) }
-alone_elsewhere source (Err (refused request at message)) h = absurd (h.is (refused request at message) refl)
+alone_elsewhere source r h = grind arith
 
 -- ---- values
 
@@ -121,17 +114,11 @@ module _ (context : Context) (values_alone : (t : Replacement) (j l : ℕ) → A
 
   tag_step_alone : (src : List ℕ) (s : State) → Alone State (tag_step context src s)
   unfolding tag_step
-  tag_step_alone src s =
-      alone_bind _ _ (tag_alone context.values values_alone (cut_off_fault context.values.main s.stack) (scope_of s.stack) (attributes_so_far s.stack s.done) (distinct_pairs (pairs_so_far s.stack s.done)) src s.at s.openings_left) (λ x. alone_lifted _)
+  tag_step_alone src s = grind (arith, alone_bind, tag_alone)
 
   step_alone : (src : List ℕ) (s : State) → Alone State (step context src s)
   unfolding step
-  step_alone src s =
-      alone_cond (not (byte src s.at == 60)) _ _ (run_alone src s)
-      (alone_cond (nat_le (length src) (s.at + 1)) _ _ (bad _)
-      (alone_cond (byte src (s.at + 1) == 33) _ _ (alone_cond (at word.CommentStart src s.at) _ _ (alone_lifted _) (alone_cond (at word.CDataStart src s.at) _ _ (alone_lifted _) (bad _)))
-      (alone_cond (byte src (s.at + 1) == 63) _ _ (alone_lifted _)
-      (alone_cond (byte src (s.at + 1) == 47) _ _ (alone_lifted _) (tag_step_alone src s)))))
+  step_alone src s = grind (arith, run_alone, bad, alone_lifted, tag_step_alone)
 
   drive_alone : (n : ℕ) (src : List ℕ) (s : State) → Alone State (drive context n src s)
   unfolding drive

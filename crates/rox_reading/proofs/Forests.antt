@@ -60,15 +60,7 @@ add a e v b (Cons (PI x y t o) c Nil) = Cons (PI x y t o) c (leaf (Text a e v b)
 add a e v b (Cons i c (Cons j d r)) = Cons i c (add a e v b (Cons j d r))
 
 glue-add : (x y : ℕ) (w : List ℕ) (p : Bool) (d : Forest Item) (a e : ℕ) (v : List ℕ) (b : Bool) (f : Forest Item) → glue (Text x y w p) d (add a e v b f) ≡ add a e v b (glue (Text x y w p) d f)
-glue-add x y w p d a e v b Nil = ap (λ (k : Forest Item). Cons (Text x y (w ++ v) false) k Nil) (join-nil d)
-glue-add x y w p d a e v b (Cons (Text x' y' w' p') c Nil) = ap (λ (v : List ℕ). Cons (Text x y v false) (join d c) Nil) (sym (append_assoc w w' v))
-glue-add x y w p d a e v b (Cons (Text x' y' w' p') c (Cons j k r)) = refl
-glue-add x y w p d a e v b (Cons (Element x' y' t) c Nil) = refl
-glue-add x y w p d a e v b (Cons (Element x' y' t) c (Cons j k r)) = refl
-glue-add x y w p d a e v b (Cons (Comment x' y' t) c Nil) = refl
-glue-add x y w p d a e v b (Cons (Comment x' y' t) c (Cons j k r)) = refl
-glue-add x y w p d a e v b (Cons (PI x' y' t o) c Nil) = refl
-glue-add x y w p d a e v b (Cons (PI x' y' t o) c (Cons j k r)) = refl
+glue-add x y w p d a e v b f = grind (arith, join-nil, append_assoc)
 
 pub merge-piece : (done : Forest Item) (a e : ℕ) (v : List ℕ) (b : Bool) → merge (join done (leaf (Text a e v b))) ≡ add a e v b (merge done)
 merge-piece Nil a e v b = refl
@@ -105,14 +97,7 @@ add_clean (Cons (PI x y t o) c Nil) a e v b h = refl
 add_clean (Cons i c (Cons j d r)) a e v b h = ap (Cons i c) (add_clean (Cons j d r) a e v b h)
 
 glue-item : (x y : ℕ) (w : List ℕ) (p : Bool) (b f : Forest Item) (i : Item) (c : Forest Item) → is_text i ≡ false → glue (Text x y w p) b (join f (Cons i c Nil)) ≡ join (glue (Text x y w p) b f) (Cons i c Nil)
-glue-item x y w p b Nil (Element a e t) c h = refl
-glue-item x y w p b Nil (Text a e v q) c h = cc h
-glue-item x y w p b Nil (Comment a e t) c h = refl
-glue-item x y w p b Nil (PI a e t o) c h = refl
-glue-item x y w p b (Cons (Text x' y' w' p') d r) i c h = refl
-glue-item x y w p b (Cons (Element x' y' t) d r) i c h = refl
-glue-item x y w p b (Cons (Comment x' y' t) d r) i c h = refl
-glue-item x y w p b (Cons (PI x' y' t o) d r) i c h = refl
+glue-item x y w p b f i c h = grind arith
 
 -- An item that is not a text is merged as it stands.
 pub merge-item : (done : Forest Item) (i : Item) (c : Forest Item) → is_text i ≡ false → merge (join done (Cons i c Nil)) ≡ join (merge done) (Cons i c Nil)
@@ -133,11 +118,7 @@ clean-item (Cons j d (Cons k e r)) i c h = clean-item (Cons k e r) i c h
 -- ---- what merging keeps
 
 glue-pairs : (x y : ℕ) (w : List ℕ) (p : Bool) (b f : Forest Item) → pairs (glue (Text x y w p) b f) ≡ pairs b ++ pairs f
-glue-pairs x y w p b Nil = refl
-glue-pairs x y w p b (Cons (Text x' y' w' p') d r) = ap (λ xs. xs ++ pairs r) (pairs-join b d) ∙ append_assoc (pairs b) (pairs d) (pairs r)
-glue-pairs x y w p b (Cons (Element x' y' t) d r) = refl
-glue-pairs x y w p b (Cons (Comment x' y' t) d r) = refl
-glue-pairs x y w p b (Cons (PI x' y' t o) d r) = refl
+glue-pairs x y w p b f = grind (arith, pairs-join, append_assoc)
 
 pub pairs-merge : (f : Forest Item) → pairs (merge f) ≡ pairs f
 pairs-merge Nil = refl
@@ -147,11 +128,7 @@ pairs-merge (Cons (Comment x y t) c r) = ap (λ xs. pairs c ++ xs) (pairs-merge 
 pairs-merge (Cons (PI x y t o) c r) = ap (λ xs. pairs c ++ xs) (pairs-merge r)
 
 glue-attribute_count : (x y : ℕ) (w : List ℕ) (p : Bool) (b f : Forest Item) → attribute_count (glue (Text x y w p) b f) ≡ attribute_count b + attribute_count f
-glue-attribute_count x y w p b Nil = omega arith
-glue-attribute_count x y w p b (Cons (Text x' y' w' p') d r) = omega (arith, attribute_count-join b d)
-glue-attribute_count x y w p b (Cons (Element x' y' t) d r) = omega arith
-glue-attribute_count x y w p b (Cons (Comment x' y' t) d r) = omega arith
-glue-attribute_count x y w p b (Cons (PI x' y' t o) d r) = omega arith
+glue-attribute_count x y w p b f = grind (arith, attribute_count-join)
 
 pub attribute_count-merge : (f : Forest Item) → attribute_count (merge f) ≡ attribute_count f
 attribute_count-merge Nil = refl
@@ -174,11 +151,7 @@ named-right above Nil g h = h
 named-right above (Cons i c r) g (a, b, h) = named-right above r g h
 
 named-glue : (above : List NamespaceDecl) (x y : ℕ) (w : List ℕ) (p : Bool) (b f : Forest Item) → AreWellNamed above b → AreWellNamed above f → AreWellNamed above (glue (Text x y w p) b f)
-named-glue above x y w p b Nil h k = (tt, h, k)
-named-glue above x y w p b (Cons (Text x' y' w' p') d r) h (u, k, l) = (tt, named-join above b d h k, l)
-named-glue above x y w p b (Cons (Element x' y' t) d r) h k = (tt, h, k)
-named-glue above x y w p b (Cons (Comment x' y' t) d r) h k = (tt, h, k)
-named-glue above x y w p b (Cons (PI x' y' t o) d r) h k = (tt, h, k)
+named-glue above x y w p b f h k = grind (arith, named-join)
 
 pub named-merge : (above : List NamespaceDecl) (f : Forest Item) → AreWellNamed above f → AreWellNamed above (merge f)
 named-merge above Nil h = h
@@ -188,11 +161,7 @@ named-merge above (Cons (Comment x y t) c r) (u, h, k) = (u, h, named-merge abov
 named-merge above (Cons (PI x y t o) c r) (u, h, k) = (u, h, named-merge above r k)
 
 glue-named : (above : List NamespaceDecl) (x y : ℕ) (w : List ℕ) (p : Bool) (b f : Forest Item) → AreWellNamed above (glue (Text x y w p) b f) → AreWellNamed above b × AreWellNamed above f
-glue-named above x y w p b Nil (u, h, k) = (h, k)
-glue-named above x y w p b (Cons (Text x' y' w' p') d r) (u, h, k) = (named-left above b d h, (tt, named-right above b d h, k))
-glue-named above x y w p b (Cons (Element x' y' t) d r) (u, h, k) = (h, k)
-glue-named above x y w p b (Cons (Comment x' y' t) d r) (u, h, k) = (h, k)
-glue-named above x y w p b (Cons (PI x' y' t o) d r) (u, h, k) = (h, k)
+glue-named above x y w p b f h = grind (arith, named-left, named-right)
 
 pub merge-named : (above : List NamespaceDecl) (f : Forest Item) → AreWellNamed above (merge f) → AreWellNamed above f
 merge-named above Nil h = h
@@ -212,45 +181,25 @@ fresh_text (Cons (Comment x y t) c r) = 1
 fresh_text (Cons (PI x y t o) c r) = 1
 
 size-glue : (x y : ℕ) (w : List ℕ) (p : Bool) (b f : Forest Item) → size (glue (Text x y w p) b f) ≡ size b + size f + fresh_text f
-size-glue x y w p b Nil = omega arith
-size-glue x y w p b (Cons (Text x' y' w' p') d r) = omega (arith, size-join b d)
-size-glue x y w p b (Cons (Element x' y' t) d r) = omega arith
-size-glue x y w p b (Cons (Comment x' y' t) d r) = omega arith
-size-glue x y w p b (Cons (PI x' y' t o) d r) = omega arith
+size-glue x y w p b f = grind (arith, size-join)
 
 fresh-glue : (x y : ℕ) (w : List ℕ) (p : Bool) (b f : Forest Item) → fresh_text (glue (Text x y w p) b f) ≡ 0
-fresh-glue x y w p b Nil = refl
-fresh-glue x y w p b (Cons (Text x' y' w' p') d r) = refl
-fresh-glue x y w p b (Cons (Element x' y' t) d r) = refl
-fresh-glue x y w p b (Cons (Comment x' y' t) d r) = refl
-fresh-glue x y w p b (Cons (PI x' y' t o) d r) = refl
+fresh-glue x y w p b f = grind arith
 
 fresh-merge : (f : Forest Item) → fresh_text (merge f) ≡ fresh_text f
-fresh-merge Nil = refl
-fresh-merge (Cons (Text x y w p) c r) = fresh-glue x y w p c (merge r)
-fresh-merge (Cons (Element x y t) c r) = refl
-fresh-merge (Cons (Comment x y t) c r) = refl
-fresh-merge (Cons (PI x y t o) c r) = refl
+fresh-merge f = grind arith
 
 fresh-join : (i : Item) (c r g : Forest Item) → fresh_text (join (Cons i c r) g) ≡ fresh_text (Cons i c r)
-fresh-join (Text x y w p) c r g = refl
-fresh-join (Element x y t) c r g = refl
-fresh-join (Comment x y t) c r g = refl
-fresh-join (PI x y t o) c r g = refl
+fresh-join i c r g = grind arith
 
 -- A row that begins with a text has an item.
 fresh_or_some : (f : Forest Item) → 1 ≤ size (merge f) + fresh_text f
-fresh_or_some Nil = omega arith
-fresh_or_some (Cons (Text x y w p) c r) = omega (arith, size-glue x y w p c (merge r), fresh-merge r, fresh_or_some r)
-fresh_or_some (Cons (Element x y t) c r) = omega arith
-fresh_or_some (Cons (Comment x y t) c r) = omega arith
-fresh_or_some (Cons (PI x y t o) c r) = omega arith
+fresh_or_some f = grind arith
 
 -- More items never make fewer.
 pub merge-more : (f g : Forest Item) → size (merge f) ≤ size (merge (join f g))
 merge-more Nil g = omega arith
-merge-more (Cons (Text x y w p) c Nil) g =
-    omega (arith, size-glue x y w p c Nil, size-glue x y w p c (merge g), fresh-merge g, fresh_or_some g)
+merge-more (Cons (Text x y w p) c Nil) g = grind (arith, size-glue)
 merge-more (Cons (Text x y w p) c (Cons j d r)) g =
     omega (
       arith,

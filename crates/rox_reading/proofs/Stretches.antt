@@ -20,12 +20,9 @@ range_parts src a b c le le' inside =
 -- A stretch with one more.
 pub slice-more : {A : Type 0} (xs : List A) (i j : ℕ) (d : A) → i ≤ j → j < length xs → slice_range xs i (j + 1) ≡ slice_range xs i j ++ get_or xs j d ∷ []
 slice-more xs i j d le lt =
-    let n : j + 1 - i ≡ (j - i) + 1 = omega arith in
-    let k : i + (j - i) ≡ j = omega arith in
-    let long : j - i < length (drop i xs) = rw length-drop (omega arith) in
     let g : get_or (drop i xs) (j - i) d ≡ get_or xs (i + (j - i)) d = rw get_or-drop refl in
-    ap (λ m. take m (drop i xs)) n ∙ take_more (drop i xs) (j - i) d long
-    ∙ ap (λ x. take (j - i) (drop i xs) ++ x ∷ []) (g ∙ ap (λ m. get_or xs m d) k)
+    ap (λ m. take m (drop i xs)) (omega arith) ∙ take_more (drop i xs) (j - i) d (rw length-drop (omega arith))
+    ∙ ap (λ x. take (j - i) (drop i xs) ++ x ∷ []) (g ∙ ap (λ m. get_or xs m d) (omega arith))
 
 -- A stretch up to the end.
 pub slice-rest : {A : Type 0} (xs : List A) (i : ℕ) → slice_range xs i (length xs) ≡ drop i xs
@@ -34,8 +31,7 @@ slice-rest xs i = take_all (length xs - i) (drop i xs) (rw length-drop (omega ar
 -- A stretch of a list that has grown.
 pub slice-append : {X : Type 0} (xs ys : List X) (i j : ℕ) → i ≤ j → j ≤ length xs → slice_range (xs ++ ys) i j ≡ slice_range xs i j
 slice-append xs ys i j ordered within =
-    let d = drop-append-le i xs ys (omega arith) in
-    ap (take (j - i)) d ∙ take-append-le (j - i) (drop i xs) ys (long xs i j ordered within)
+    ap (take (j - i)) (drop-append-le i xs ys (omega arith)) ∙ take-append-le (j - i) (drop i xs) ys (long xs i j ordered within)
   where
     long : {X : Type 0} (xs : List X) (i j : ℕ) → i ≤ j → j ≤ length xs → j - i ≤ length (drop i xs)
     long xs zero j ordered within = omega arith

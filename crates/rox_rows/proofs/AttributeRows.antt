@@ -1,9 +1,7 @@
 -- The table of attributes: rows, and the explicit places of some.
 use Rattle.std.proofs.Common.{◌≡◌, ℕ, zero, suc, ◌+◌, ◌-◌, ◌<◌, ◌≤◌, ◌==◌, Bool, true, false, List, [], ◌∷◌, ◌++◌, length, map, take, drop, get_or, if◌then◌else◌, length-append, append-nil, append_assoc, refl, sym, ap, ◌∙◌, subst, arith}
 use Rattle.std.specs.List.{AllByRecursion, slice_range, list_any}
-use Rattle.std.proofs.Math.Seq.{drop-append_seam}
-use Rattle.std.proofs.lemmas.Bool.{ne_eqb, eq-eqb}
-use Rattle.std.proofs.Math.Seq.{get_or-append_seam}
+use Rattle.std.proofs.Math.Seq.{drop-append_seam, get_or-append_seam}
 use Rattle.std.proofs.lemmas.List.{take_all, take-append-le, length-map, drop-map, take-map, map-append, take-append-drop, take_more, get_or-take, get_or_append_left}
 use Rattle.std.specs.Mem.{manually_drop_value}
 use Rattle.rox_storage.specs.Storage.{storage_bytes, is_borrowed}
@@ -52,9 +50,7 @@ count_parts k xs = sym (count_append (take k xs) (drop k xs)) ∙ ap explicit_co
 -- ---- those whose values are owned
 
 pub owned_more : (i : ℕ) (xs : List StoredAttribute) (r : StoredAttribute) → owned_places i (xs ++ r ∷ []) ≡ owned_places i xs ++ own_place (manually_drop_value r.value) (length xs + i)
-owned_more i [] r =
-    let n : i ≡ 0 + i = omega arith in
-    append-nil (own_place (manually_drop_value r.value) i) ∙ ap (own_place (manually_drop_value r.value)) n
+owned_more i [] r = grind arith
 owned_more i (x ∷ xs) r =
     let own = own_place (manually_drop_value x.value) i in
     let n : length xs + (i + 1) ≡ suc (length xs) + i = omega arith in
@@ -64,16 +60,11 @@ owned_more i (x ∷ xs) r =
 -- one more row
 pub owned_push : (xs ys : List StoredAttribute) (owned more : List ℕ) (r : StoredAttribute) (item : AttributeData) (n : ℕ) → ys ≡ xs ++ r ∷ [] → data_of r ≡ item → n ≡ length xs
     → owned_places 0 xs ≡ owned → more ≡ owned ++ own_place item.value n → owned_places 0 ys ≡ more
-owned_push xs ys owned more r item n grown is count listed noted =
-    let at : length xs + 0 ≡ n = omega (arith, count) in
-    ap (owned_places 0) grown ∙ owned_more 0 xs r ∙ ap (λ k. owned_places 0 xs ++ own_place (manually_drop_value r.value) k) at
-    ∙ ap (λ (d : AttributeData). owned_places 0 xs ++ own_place d.value n) is ∙ ap (λ (ps : List ℕ). ps ++ own_place item.value n) listed ∙ sym noted
+owned_push xs ys owned more r item n grown is count listed noted = grind (arith, owned_more)
 
 -- without the last
 without : (zs old new : List ℕ) (k n : ℕ) → zs ++ k ∷ [] ≡ old → n ≡ length old → new ≡ take (n - 1) old → zs ≡ new
-without zs old new k n parts count cut =
-    let long = ap length (sym parts) ∙ length-append zs (k ∷ []) in
-    sym (cut ∙ ap (take (n - 1)) (sym parts) ∙ take-append-le (n - 1) zs (k ∷ []) (omega (arith, long, count)) ∙ take_all (n - 1) zs (omega (arith, long, count)))
+without zs old new k n parts count cut = grind (arith, length-append, take-append-le, take_all)
 
 -- one row fewer, of a value that is owned, and of another
 pub owned_cut : (old xs : List StoredAttribute) (r : StoredAttribute) (owned fewer : List ℕ) (n : ℕ) → old ≡ xs ++ r ∷ []
@@ -85,10 +76,7 @@ owned_cut old xs r owned fewer n parts own count cut listed =
 
 pub lent_cut : (old xs : List StoredAttribute) (r : StoredAttribute) (owned : List ℕ) → old ≡ xs ++ r ∷ []
     → is_borrowed (manually_drop_value r.value) ≡ true → owned_places 0 old ≡ owned → owned_places 0 xs ≡ owned
-lent_cut old xs r owned parts lent listed =
-    let at = length xs + 0 in
-    let none : own_place (manually_drop_value r.value) at ≡ [] = ap (λ (b : Bool). if b then [] else at ∷ []) lent in
-    sym (append-nil (owned_places 0 xs)) ∙ ap (λ (ps : List ℕ). owned_places 0 xs ++ ps) (sym none) ∙ sym (owned_more 0 xs r) ∙ ap (owned_places 0) (sym parts) ∙ listed
+lent_cut old xs r owned parts lent listed = grind (arith, append-nil, owned_more)
 
 -- ---- their numbers
 
@@ -105,15 +93,13 @@ numbered_take n (suc k) [] h = tt
 numbered_take n (suc k) (x ∷ xs) h = (h.0, numbered_take ((if x.before == 255 then 1 else 0) + n) k xs h.1)
 
 within : (b : Bool) (p n c k : ℕ) → b ≡ true → p ≡ n → ((if b then 1 else 0) + c) + n ≤ k → p < k
-within true p n c k e h l = omega (arith, h, l)
-within false p n c k e h l = cc e
+within b p n c k h q r = grind arith
 
 -- ---- rows over another table of places, which is the same as far as theirs go
 
 same_place : (us vs : List AttributePlaces) (k : ℕ) (b : Bool) (p : ℕ) (d : AttributePlaces) → ((i : ℕ) → i < k → get_or vs i d ≡ get_or us i d) → (b ≡ true → p < k)
     → (if b then get_or vs p d else d) ≡ (if b then get_or us p d else d)
-same_place us vs k true p d same l = same p (l refl)
-same_place us vs k false p d same l = refl
+same_place us vs k b p d h q = grind arith
 
 rows_same : (us vs : List AttributePlaces) (k n : ℕ) (xs : List StoredAttribute) → ((i : ℕ) (d : AttributePlaces) → i < k → get_or vs i d ≡ get_or us i d)
     → AreNumbered n xs → explicit_count xs + n ≤ k → map (row_in vs) xs ≡ map (row_in us) xs
@@ -143,9 +129,7 @@ what us (x ∷ xs) = ap (λ (ds : List AttributeData). data_of x ∷ ds) (what u
 -- from any place on
 pub column_behind : (t : AttributeTable) (seen : List StoredAttribute) (from : ℕ) → seen ≡ t.items.items
     → map (λ (r : AttributeRow). r.0) (drop from (attribute_rows t)) ≡ map data_of (slice_range seen from (length seen))
-column_behind t seen from same =
-    ap (map (λ (r : AttributeRow). r.0)) (drop-map (row_in t.explicit.items) from t.items.items) ∙ what t.explicit.items (drop from t.items.items)
-    ∙ sym (ap (λ xs. map data_of (slice_range xs from (length xs))) same ∙ ap (map data_of) (slice-rest t.items.items from))
+column_behind t seen from same = grind (arith, drop-map, what, slice-rest)
 
 -- behind the first rows
 pub data_behind : (t : AttributeTable) (seen : List StoredAttribute) (old : List AttributeRow) (from : ℕ) → seen ≡ t.items.items → from ≡ length old
@@ -154,11 +138,7 @@ data_behind t seen old from same at = subst (λ (n : ℕ). map (λ (r : Attribut
 
 -- rows that were there before more came are within it
 pub old_within : (t : AttributeTable) (seen : List StoredAttribute) (old more : List AttributeRow) (from : ℕ) → seen ≡ t.items.items → attribute_rows t ≡ old ++ more → from ≡ length old → from ≤ length seen
-old_within t seen old more from same grown at =
-    let n = length_rows t in
-    let l = ap length grown ∙ length-append old more in
-    let s = ap length same in
-    omega (arith, n, l, s, at)
+old_within t seen old more from same grown at = grind (arith, length_rows, length-append)
 
 -- what holds of what each row is holds of each that is stored
 all_data : (P : AttributeData → Type 0) (us : List AttributePlaces) (xs : List StoredAttribute) → AllByRecursion (λ (r : AttributeRow). P r.0) (map (row_in us) xs) → AllByRecursion (λ (r : StoredAttribute). P (data_of r)) xs
@@ -167,9 +147,7 @@ all_data P us (x ∷ xs) h = (h.0, all_data P us xs h.1)
 
 pub all_column : (P : AttributeData → Type 0) (t : AttributeTable) (seen : List StoredAttribute) (from : ℕ) → seen ≡ t.items.items
     → AllByRecursion (λ (r : AttributeRow). P r.0) (drop from (attribute_rows t)) → AllByRecursion (λ (r : StoredAttribute). P (data_of r)) (slice_range seen from (length seen))
-all_column P t seen from same h =
-    subst (AllByRecursion (λ (r : StoredAttribute). P (data_of r))) (sym (ap (λ xs. slice_range xs from (length xs)) same ∙ slice-rest t.items.items from))
-    (all_data P t.explicit.items (drop from t.items.items) (subst (AllByRecursion (λ (r : AttributeRow). P r.0)) (drop-map (row_in t.explicit.items) from t.items.items) h))
+all_column P t seen from same h = grind (arith, slice-rest, all_data, drop-map)
 
 pub all_behind : (P : AttributeData → Type 0) (t : AttributeTable) (seen : List StoredAttribute) (old more : List AttributeRow) (from : ℕ)
     → seen ≡ t.items.items → attribute_rows t ≡ old ++ more → from ≡ length old → AllByRecursion (λ (r : AttributeRow). P r.0) more
@@ -188,23 +166,12 @@ any_data P (x ∷ xs) = rw (any_data P xs) refl
 -- of an attribute whose places follow from its start
 pub compact_row : (us : List AttributePlaces) (r : StoredAttribute) (item : AttributeData) (places : AttributePlaces) → data_of r ≡ item → r.before < 255
     → r.place ≡ places.start → places ≡ compact_places places.start r.before (length item.local.now) (length (storage_bytes item.value)) → row_in us r ≡ (item, places)
-compact_row us r item places is few start follow =
-    let compact = compact_places r.place r.before (length r.local.now) (length (storage_bytes (manually_drop_value r.value))) in
-    let first : places_in us r ≡ compact = ap (λ (b : Bool). if b then get_or us r.place compact else compact) (ne_eqb r.before 255 (λ e. omega (arith, e, few))) in
-    let same : compact ≡ compact_places places.start r.before (length item.local.now) (length (storage_bytes item.value)) =
-    ap (λ (d : AttributeData). compact_places r.place r.before (length d.local.now) (length (storage_bytes d.value))) is
-    ∙ ap (λ n. compact_places n r.before (length item.local.now) (length (storage_bytes item.value))) start in
-    ap (λ (d : AttributeData). (d, places_in us r)) is ∙ ap (λ (p : AttributePlaces). (item, p)) (first ∙ same ∙ sym follow)
+compact_row us r item places is few start follow = grind arith
 
 -- and of another
 pub explicit_row : (us : List AttributePlaces) (r : StoredAttribute) (item : AttributeData) (places : AttributePlaces) → data_of r ≡ item → r.before ≡ 255
     → r.place ≡ length us → row_in (us ++ places ∷ []) r ≡ (item, places)
-explicit_row us r item places is marked last =
-    let compact = compact_places r.place r.before (length r.local.now) (length (storage_bytes (manually_drop_value r.value))) in
-    let all = us ++ places ∷ [] in
-    let first : places_in all r ≡ get_or all r.place compact = ap (λ (b : Bool). if b then get_or all r.place compact else compact) (eq-eqb r.before 255 marked) in
-    let own : get_or all r.place compact ≡ places = ap (λ n. get_or all n compact) last ∙ get_or-append_seam us places [] compact in
-    ap (λ (d : AttributeData). (d, places_in all r)) is ∙ ap (λ (p : AttributePlaces). (item, p)) (first ∙ own)
+explicit_row us r item places is marked last = grind (arith, get_or-append_seam)
 
 pub rows_push : (us : List AttributePlaces) (xs ys : List StoredAttribute) (r : StoredAttribute) (row : AttributeRow) → ys ≡ xs ++ r ∷ [] → row_in us r ≡ row
     → map (row_in us) ys ≡ map (row_in us) xs ++ row ∷ []
@@ -212,25 +179,16 @@ rows_push us xs ys r row grown is = ap (map (row_in us)) grown ∙ map-append (r
 
 -- one more that is compact has no number
 pub numbered_compact : (xs ys : List StoredAttribute) (r : StoredAttribute) → ys ≡ xs ++ r ∷ [] → AreNumbered 0 xs → r.before < 255 → AreNumbered 0 ys
-numbered_compact xs ys r grown h few =
-    subst (AreNumbered 0) (sym grown) (numbered_more 0 xs r h (λ e. cc (e, ne_eqb r.before 255 (λ i. omega (arith, i, few)))))
+numbered_compact xs ys r grown h few = grind (arith, numbered_more)
 
 pub count_compact : (xs ys : List StoredAttribute) (r : StoredAttribute) → ys ≡ xs ++ r ∷ [] → r.before < 255 → explicit_count ys ≡ explicit_count xs
-count_compact xs ys r grown few =
-    let one : Bool → ℕ = λ b. if b then 1 else 0 in
-    let none : one (r.before == 255) ≡ 0 = ap one (ne_eqb r.before 255 (λ i. omega (arith, i, few))) in
-    let all = ap explicit_count grown ∙ count_append xs (r ∷ []) in
-    omega (arith, all, none)
+count_compact xs ys r grown few = grind (arith, count_append)
 
 pub numbered_explicit : (xs ys : List StoredAttribute) (r : StoredAttribute) (n : ℕ) → ys ≡ xs ++ r ∷ [] → AreNumbered 0 xs → n ≡ explicit_count xs → r.place ≡ n → AreNumbered 0 ys
 numbered_explicit xs ys r n grown h counted last = subst (AreNumbered 0) (sym grown) (numbered_more 0 xs r h (λ e. omega (arith, counted, last)))
 
 pub count_one_more : (xs ys : List StoredAttribute) (r : StoredAttribute) → ys ≡ xs ++ r ∷ [] → r.before ≡ 255 → explicit_count ys ≡ explicit_count xs + 1
-count_one_more xs ys r grown marked =
-    let one : Bool → ℕ = λ b. if b then 1 else 0 in
-    let some : one (r.before == 255) ≡ 1 = ap one (eq-eqb r.before 255 marked) in
-    let all = ap explicit_count grown ∙ count_append xs (r ∷ []) in
-    omega (arith, all, some)
+count_one_more xs ys r grown marked = grind (arith, count_append)
 
 -- ---- fewer rows
 
@@ -244,7 +202,4 @@ places_left t seen k taken same is =
 
 pub rows_kept : (t : AttributeTable) (xs : List StoredAttribute) (us : List AttributePlaces) (k n : ℕ) → xs ≡ take k t.items.items → us ≡ take n t.explicit.items → n ≡ explicit_count (take k t.items.items)
     → map (row_in us) xs ≡ take k (attribute_rows t)
-rows_kept t xs us k n front places is =
-    ap (λ (ys : List StoredAttribute). map (row_in us) ys) front ∙ ap (λ (ps : List AttributePlaces). map (row_in ps) (take k t.items.items)) places
-    ∙ rows_cut t.explicit.items n (take k t.items.items) (numbered_take 0 k t.items.items t.numbered) (omega (arith, is))
-    ∙ sym (take-map (row_in t.explicit.items) k t.items.items)
+rows_kept t xs us k n front places is = grind (arith, rows_cut, numbered_take, take-map)

@@ -1,37 +1,30 @@
 -- What rows show stays as the tables behind them grow.
-use Rattle.std.proofs.Common.{◌≡◌, ℕ, ◌-◌, ◌≤◌, List, ◌++◌, length, map, refl, ap, ◌∙◌, arith, Option, Some, None}
+use Rattle.std.proofs.Common.{◌≡◌, ℕ, ◌≤◌, List, ◌++◌, length, map, refl, ap, ◌∙◌, arith, Option}
 use Rattle.std.specs.List.{AllByRecursion, slice_range}
 use Rattle.std.specs.Option.{option_map}
 use Rattle.rox_grammar.specs.Written.{NamespaceDecl}
 use Rattle.rox_grammar.specs.Tree as tree
-use Rattle.rox_storage.specs.Storage.{storage_bytes, is_borrowed}
 use Rattle.rox_rows.specs.declared.row.AttributeNamespace.{AttributeNamespace}
-use Rattle.rox_rows.specs.declared.row.AttributeNamespace.TheVariants as space
 use Rattle.rox_rows.specs.declared.row.NodeKind.{NodeKind}
 use Rattle.rox_rows.specs.declared.row.NodeKind.TheVariants as kind
 use Rattle.rox_rows.specs.declared.row.NodeData.{NodeData}
-use Rattle.rox_rows.specs.Rows.{RowView, row_view, node, numbered_place, attribute, attribute_uri, NamespaceWithin, KindWithin, AttributeRow}
+use Rattle.rox_rows.specs.Rows.{row_view, node, numbered_place, attribute, attribute_uri, NamespaceWithin, KindWithin, AttributeRow}
 use Rattle.rox_reading.specs.AtIndex.{namespace_at, scope_at, OptionWithin}
 use Rattle.rox_reading.proofs.Lists.{all_slice, map_same}
 use Rattle.rox_reading.proofs.Stretches.{slice-append}
-use Rattle.rox_reading.proofs.AtIndex.{namespace_at-append, scope_at-append, option_more}
+use Rattle.rox_reading.proofs.AtIndex.{namespace_at-append, scope_at-append}
 
 -- ---- entries
 
 pub attribute_uri-append : (namespaces more : List NamespaceDecl) (a : AttributeNamespace) → NamespaceWithin (length namespaces) a → attribute_uri (namespaces ++ more) a ≡ attribute_uri namespaces a
-attribute_uri-append namespaces more space.None h = refl
-attribute_uri-append namespaces more space.Xml h = refl
-attribute_uri-append namespaces more (space.Listed i) h = ap (λ (d : NamespaceDecl). Some d.uri) (namespace_at-append namespaces more i h)
+attribute_uri-append namespaces more a h = grind (arith, namespace_at-append)
 
 pub attribute-append : (namespaces more : List NamespaceDecl) (a : AttributeRow) → NamespaceWithin (length namespaces) a.0.namespace → attribute (namespaces ++ more) a ≡ attribute namespaces a
-attribute-append namespaces more a h = ap (λ (o : Option (List ℕ)).
-    let r : tree.Attribute = record { start = a.1.start; name_end = a.1.name_end; value_start = a.1.value_start; end = a.1.end; namespace = o; local = a.0.local.now; value = storage_bytes a.0.value; borrowed = is_borrowed a.0.value } in r)
-    (attribute_uri-append namespaces more a.0.namespace h)
+attribute-append namespaces more a h = grind (arith, attribute_uri-append)
 
 uri-append : (namespaces more : List NamespaceDecl) (o : Option ℕ) → OptionWithin (length namespaces) o
     → option_map (λ i. (namespace_at (namespaces ++ more) i).uri) o ≡ option_map (λ i. (namespace_at namespaces i).uri) o
-uri-append namespaces more None h = refl
-uri-append namespaces more (Some i) h = ap (λ (d : NamespaceDecl). Some d.uri) (namespace_at-append namespaces more i h)
+uri-append namespaces more o h = grind (arith, namespace_at-append)
 
 -- ---- rows
 
@@ -57,20 +50,12 @@ node-append as' moreA namespaces moreN ls moreL start end (kind.PI p) ha h = ref
 pub lines-append : (as' moreA : List AttributeRow) (namespaces moreN : List NamespaceDecl) (ls moreL : List (List NamespaceDecl)) (rows : List NodeData)
     → AllByRecursion (λ a. NamespaceWithin (length namespaces) a.0.namespace) as' → AllByRecursion (λ r. KindWithin (length as') (length namespaces) (length ls) r.kind) rows
     → map (row_view (as' ++ moreA) (namespaces ++ moreN) (ls ++ moreL)) rows ≡ map (row_view as' namespaces ls) rows
-lines-append as' moreA namespaces moreN ls moreL rows ha h =
-    map_same (row_view (as' ++ moreA) (namespaces ++ moreN) (ls ++ moreL)) (row_view as' namespaces ls) (λ r. KindWithin (length as') (length namespaces) (length ls) r.kind) rows
-    (λ r k. ap (λ n. let x : RowView = record { parent = r.parent; subtree_end = r.subtree_end; node = n } in x) (node-append as' moreA namespaces moreN ls moreL r.start r.end r.kind ha k)) h
+lines-append as' moreA namespaces moreN ls moreL rows ha h = grind (arith, map_same, node-append)
 
 -- ---- what a row names stays in the tables
 
 pub kind_more : (a n l a' n' l' : ℕ) (k : NodeKind) → a ≤ a' → n ≤ n' → l ≤ l' → KindWithin a n l k → KindWithin a' n' l' k
-kind_more a n l a' n' l' kind.Root x y z h = tt
-kind_more a n l a' n' l' (kind.Element e) x y z (p, q, r, o) = (p, omega arith, omega arith, option_more n n' (numbered_place e.namespace) y o)
-kind_more a n l a' n' l' (kind.Text v) x y z h = tt
-kind_more a n l a' n' l' (kind.Comment t) x y z h = h
-kind_more a n l a' n' l' (kind.PI p) x y z h = tt
+kind_more a n l a' n' l' k h p q r = grind arith
 
 pub namespace_more : (n n' : ℕ) (a : AttributeNamespace) → n ≤ n' → NamespaceWithin n a → NamespaceWithin n' a
-namespace_more n n' space.None y h = tt
-namespace_more n n' space.Xml y h = tt
-namespace_more n n' (space.Listed i) y h = omega arith
+namespace_more n n' a h k = grind arith

@@ -4,7 +4,7 @@ use Rattle.std.specs.declared.mem.ManuallyDrop.{ManuallyDrop}
 use Rattle.rox_storage.specs.declared.storage.StringStorage.{StringStorage}
 use Rattle.std.proofs.Common.{◌≡◌, ℕ, zero, suc, ◌+◌, ◌*◌, ◌/◌, ◌^◌, ◌<◌, ◌≤◌, ◌==◌, ◌&&◌, if◌then◌else◌, Bool, true, false, List, [], ◌∷◌, ◌++◌, length, take, set, get_or, vec_len, length-append, refl, sym, ap, ◌∙◌, arith}
 use Rattle.std.proofs.lemmas.List.Folds.{list_all-append}
-use Rattle.std.proofs.lemmas.Bool.{ltb-true, lt-ltb, eqb-true, eq-eqb, and_parts}
+use Rattle.std.proofs.lemmas.Bool.{and_parts}
 use Rattle.std.proofs.lemmas.List.{take_all, take_more}
 use Rattle.rox_rows.specs.declared.row.PI.{PI}
 use Rattle.rox_rows.specs.declared.row.NodeKind.{NodeKind}
@@ -75,9 +75,7 @@ pub whole-end : (pis : List PI) (high : List HighPlaces) (rows : List StoredNode
     ≡ set (whole_rows pis high rows) i (record (get_or (whole_rows pis high rows) i d) { end = whole_place low up; subtree_end = n })
 whole-end pis [] [] i low up n g r d l z = refl
 whole-end pis (h ∷ hs) [] i low up n g r d l z = absurd (omega arith)
-whole-end pis [] (x ∷ rows) zero low up n g r d l z =
-    let none : up ≡ 0 = z (omega arith) (omega arith) in
-    ap (λ (u : ℕ). record (whole_row pis no_high x) { end = whole_place low u; subtree_end = n } ∷ whole_rows pis [] rows) (sym none)
+whole-end pis [] (x ∷ rows) zero low up n g r d l z = grind arith
 whole-end pis [] (x ∷ rows) (suc i) low up n g r d l z =
     ap (λ (xs : List NodeData). whole_row pis no_high x ∷ xs) (whole-end pis [] rows i low up n g r d (omega arith) (λ a b. z (omega arith) (omega arith)))
 whole-end pis (h ∷ hs) (x ∷ rows) zero low up n g r d l z = refl
@@ -92,8 +90,7 @@ whole-root pis (h ∷ hs) (x ∷ rows) n r d = refl
 
 -- the first of them
 take-none : {X : Type 0} (n : ℕ) → take {A = X} n [] ≡ []
-take-none zero = refl
-take-none (suc n) = refl
+take-none n = grind arith
 
 pub whole-take : (pis : List PI) (n : ℕ) (high : List HighPlaces) (rows : List StoredNode) → whole_rows pis (take n high) (take n rows) ≡ take n (whole_rows pis high rows)
 whole-take pis zero high rows = refl
@@ -124,11 +121,7 @@ instruction-none (q ∷ pis) zero l = absurd (omega arith)
 instruction-none (q ∷ pis) (suc i) l = instruction-none pis i (omega arith)
 
 kind-more : (pis : List PI) (p : PI) (k : StoredKind) → is_kind_within (length pis) k ≡ true → whole_kind (pis ++ p ∷ []) k ≡ whole_kind pis k
-kind-more pis p stored.Root w = refl
-kind-more pis p (stored.Element a b c d e) w = refl
-kind-more pis p (stored.Text n a) w = refl
-kind-more pis p (stored.Comment n a) w = refl
-kind-more pis p (stored.Instruction i) w = instruction-more pis p i (ltb-true i (length pis) w)
+kind-more pis p k h = grind (arith, instruction-more)
 
 pub head-within : (n : ℕ) (x : StoredNode) (rows : List StoredNode) → are_within n (x ∷ rows) ≡ true → is_kind_within n x.kind ≡ true
 head-within n x rows w = (and_parts (is_kind_within n x.kind) (are_within n rows) w).0
@@ -145,11 +138,7 @@ whole-more pis p (h ∷ hs) (x ∷ rows) w =
     rw (kind-more pis p x.kind (head-within (length pis) x rows w), whole-more pis p hs rows (tail-within (length pis) x rows w)) refl
 
 kind-within_more : (n m : ℕ) (k : StoredKind) → n ≤ m → is_kind_within n k ≡ true → is_kind_within m k ≡ true
-kind-within_more n m stored.Root l w = refl
-kind-within_more n m (stored.Element a b c d e) l w = refl
-kind-within_more n m (stored.Text q a) l w = refl
-kind-within_more n m (stored.Comment q a) l w = refl
-kind-within_more n m (stored.Instruction i) l w = let s = ltb-true i n w in lt-ltb i m (omega arith)
+kind-within_more n m k h p = grind arith
 
 pub within-more : (n m : ℕ) (rows : List StoredNode) → n ≤ m → are_within n rows ≡ true → are_within m rows ≡ true
 within-more n m [] l w = refl
@@ -180,12 +169,7 @@ within-root n (x ∷ rows) m r w = w
 
 one_chained : (count n last end : ℕ) (r : StoredNode) → n ≡ count → last == end ≡ true → is_linked end r.kind ≡ true
     → (is_linked last r.kind && last_with count last r.kind == last_with n end r.kind) ≡ true
-one_chained count n last end r at e l = cases (owns r.kind) (eqb-true last end e) l
-  where
-    cases : (b : Bool) → last ≡ end → (if b then previous r.kind == end else true) ≡ true
-        → ((if b then previous r.kind == last else true) && (if b then count + 1 else last) == (if b then n + 1 else end)) ≡ true
-    cases true h l = rw (h, l) (eq-eqb (count + 1) (n + 1) (omega (arith, at)))
-    cases false h l = eq-eqb last end h
+one_chained count n last end r at e l = grind arith
 
 pub chain_push : (count last end : ℕ) (rows : List StoredNode) (r : StoredNode) → is_chain count last end rows ≡ true → is_linked end r.kind ≡ true
     → is_chain count last (last_with (length rows + count) end r.kind) (rows ++ r ∷ []) ≡ true
@@ -198,12 +182,7 @@ chain_push count last end (x ∷ rows) r h l =
 
 one_unchained : (count last end : ℕ) (r : StoredNode) → (is_linked last r.kind && last_with count last r.kind == end) ≡ true
     → last == (if owns r.kind then previous r.kind else end) ≡ true
-one_unchained count last end r h = cases (owns r.kind) h
-  where
-    cases : (b : Bool) → ((if b then previous r.kind == last else true) && (if b then count + 1 else last) == end) ≡ true
-        → last == (if b then previous r.kind else end) ≡ true
-    cases true h = eq-eqb last (previous r.kind) (sym (eqb-true (previous r.kind) last (and_parts (previous r.kind == last) (count + 1 == end) h).0))
-    cases false h = h
+one_unchained count last end r h = grind arith
 
 -- without the last row
 pub chain_pop : (count last end : ℕ) (rows : List StoredNode) (r : StoredNode) → is_chain count last end (rows ++ r ∷ []) ≡ true
@@ -228,11 +207,7 @@ chain_root count last end [] m r h = h
 chain_root count last end (x ∷ rows) m r h = h
 
 link_is : (last : ℕ) (k : NodeKind) (r : StoredNode) → IsChainedTo last k r.kind → is_linked last r.kind ≡ true
-link_is last k r is = cases (owns r.kind) is.behind
-  where
-    cases : (b : Bool) → (b ≡ true → previous r.kind ≡ last) → (if b then previous r.kind == last else true) ≡ true
-    cases true h = eq-eqb (previous r.kind) last (h refl)
-    cases false h = refl
+link_is last k r is = grind arith
 
 -- ---- the table
 
@@ -263,11 +238,7 @@ count_nodes t = omega (arith, t.rows.ok.0, length_nodes t)
 
 -- an element that is lent is one
 pub lent_element : (k : KindRef) (e : ElementData) → kind_of k ≡ kind.Element e → k ≡ lent.Element e
-lent_element lent.Root e h = absurd (cc h)
-lent_element (lent.Element x) e h = cc h
-lent_element (lent.Text x) e h = absurd (cc h)
-lent_element (lent.Comment x) e h = absurd (cc h)
-lent_element (lent.PI x) e h = absurd (cc h)
+lent_element k e h = grind arith
 
 -- the last of them apart
 pub split_last : {X : Type 0} (xs : List X) (n : ℕ) (x : X) → length xs ≡ n + 1 → x ≡ get_or xs n x → xs ≡ take n xs ++ x ∷ []
@@ -281,60 +252,38 @@ a_row = record { start = 0; end = 0; parent = 0; subtree_end = 0; kind = stored.
 pub row_is : (t : NodeTable) (i : ℕ) (h : HighPlaces) (x : StoredNode) (d : NodeData) (s e : ℕ) (k : NodeKind) → i < length t.rows.items
     → x ≡ get_or t.rows.items i x → h ≡ high_at t.high.items i → s ≡ whole_place x.start h.start → e ≡ whole_place x.end h.end → k ≡ whole_kind t.instructions.items x.kind
     → record { start = s; end = e; parent = x.parent; subtree_end = x.subtree_end; kind = k } ≡ get_or (node_rows t) i d
-row_is t i h x d s e k l at high start end is =
-    ap (λ (y : ℕ). let r : NodeData = record { start = y; end = e; parent = x.parent; subtree_end = x.subtree_end; kind = k } in r) start
-    ∙ ap (λ (y : ℕ). let r : NodeData = record { start = whole_place x.start h.start; end = y; parent = x.parent; subtree_end = x.subtree_end; kind = k } in r) end
-    ∙ ap (λ (y : NodeKind). let r : NodeData = record { start = whole_place x.start h.start; end = whole_place x.end h.end; parent = x.parent; subtree_end = x.subtree_end; kind = y } in r) is
-    ∙ ap (λ (y : HighPlaces). whole_row t.instructions.items y x) high
-    ∙ ap (λ (y : StoredNode). whole_row t.instructions.items (high_at t.high.items i) y) at
-    ∙ whole-at t.instructions.items t.high.items t.rows.items i x d l
+row_is t i h x d s e k l at high start end is = grind (arith, whole-at)
 
 -- the row itself, and what it is
 pub links_are : (t : NodeTable) (i : ℕ) (x : StoredNode) (d : NodeData) → i < length t.rows.items → x ≡ get_or t.rows.items i x
     → whole_row t.instructions.items (high_at t.high.items i) x ≡ get_or (node_rows t) i d
-links_are t i x d l at =
-    ap (λ (y : StoredNode). whole_row t.instructions.items (high_at t.high.items i) y) at ∙ whole-at t.instructions.items t.high.items t.rows.items i x d l
+links_are t i x d l at = grind (arith, whole-at)
 
 -- one row more
 pub push_is : (pis pis' : List PI) (high : List HighPlaces) (rows new : List StoredNode) (x : StoredNode) (row : NodeData) → length high ≤ length rows → new ≡ rows ++ x ∷ []
     → whole_rows pis' high rows ≡ whole_rows pis high rows → whole_row pis' no_high x ≡ row → whole_rows pis' high new ≡ whole_rows pis high rows ++ row ∷ []
-push_is pis pis' high rows new x row l e same is =
-    ap (whole_rows pis' high) e ∙ whole-push pis' high rows x l ∙ ap (λ (xs : List NodeData). xs ++ whole_row pis' no_high x ∷ []) same
-    ∙ ap (λ (y : NodeData). whole_rows pis high rows ++ y ∷ []) is
+push_is pis pis' high rows new x row l e same is = grind (arith, whole-push)
 
 pub high_is : (base : List NodeData) (pis : List PI) (high high' : List HighPlaces) (rows new : List StoredNode) (h : HighPlaces) (x : StoredNode) (row : NodeData) → length high ≡ length rows
     → high' ≡ high ++ h ∷ [] → new ≡ rows ++ x ∷ [] → whole_rows pis high rows ≡ base → whole_row pis h x ≡ row → whole_rows pis high' new ≡ base ++ row ∷ []
-high_is base pis high high' rows new h x row l eh e same is =
-    ap (λ (hs : List HighPlaces). whole_rows pis hs new) eh ∙ ap (whole_rows pis (high ++ h ∷ [])) e ∙ whole-push_high pis high rows h x l
-    ∙ ap (λ (xs : List NodeData). xs ++ whole_row pis h x ∷ []) same ∙ ap (λ (y : NodeData). base ++ y ∷ []) is
+high_is base pis high high' rows new h x row l eh e same is = grind (arith, whole-push_high)
 
 pub low_row : (pis : List PI) (row : NodeData) (k : StoredKind) → whole_kind pis k ≡ row.kind
     → whole_row pis no_high (record { start = row.start; end = row.end; parent = row.parent; subtree_end = row.subtree_end; kind = k }) ≡ row
-low_row pis row k is =
-    let s : whole_place row.start 0 ≡ row.start = omega arith in
-    let e : whole_place row.end 0 ≡ row.end = omega arith in
-    rw (s, e, is) refl
+low_row pis row k is = grind arith
 
 -- the row, of its halves
 pub high_row : (pis : List PI) (row : NodeData) (k : StoredKind) (low_s low_e high_s high_e : ℕ) → row.start ≡ (row.start / 2 ^ 32) * 2 ^ 32 + low_s → row.end ≡ (row.end / 2 ^ 32) * 2 ^ 32 + low_e
     → high_s ≡ row.start / 2 ^ 32 → high_e ≡ row.end / 2 ^ 32 → whole_kind pis k ≡ row.kind
     → whole_row pis (record { start = high_s; end = high_e }) (record { start = low_s; end = low_e; parent = row.parent; subtree_end = row.subtree_end; kind = k }) ≡ row
-high_row pis row k low_s low_e high_s high_e ls le hs he is =
-    let s : whole_place low_s high_s ≡ row.start = ap (whole_place low_s) hs ∙ sym ls in
-    let e : whole_place low_e high_e ≡ row.end = ap (whole_place low_e) he ∙ sym le in
-    rw (s, e, is) refl
+high_row pis row k low_s low_e high_s high_e ls le hs he is = grind arith
 
 -- an end written
 pub end_is : (t : NodeTable) (i low up n end len : ℕ) (d : NodeData) (high : List HighPlaces) (rows : List StoredNode) → length t.high.items ≤ length t.rows.items
     → (length t.high.items < length t.rows.items → up ≡ 0)
     → high ≡ set t.high.items i (record (get_or t.high.items i no_high) { end = up }) → rows ≡ set t.rows.items i (record (get_or t.rows.items i a_row) { end = low; subtree_end = n })
     → whole_place low up ≡ end → n ≡ len → whole_rows t.instructions.items high rows ≡ set (node_rows t) i (record (get_or (node_rows t) i d) { end = end; subtree_end = len })
-end_is t i low up n end len d high rows l z eh er place count =
-    ap (λ (hs : List HighPlaces). whole_rows t.instructions.items hs rows) eh
-    ∙ ap (whole_rows t.instructions.items (set t.high.items i (record (get_or t.high.items i no_high) { end = up }))) er
-    ∙ whole-end t.instructions.items t.high.items t.rows.items i low up n no_high a_row d l (λ a b. z (omega arith))
-    ∙ ap (λ (y : ℕ). set (node_rows t) i (record (get_or (node_rows t) i d) { end = y; subtree_end = n })) place
-    ∙ ap (λ (y : ℕ). set (node_rows t) i (record (get_or (node_rows t) i d) { end = end; subtree_end = y })) count
+end_is t i low up n end len d high rows l z eh er place count = grind (arith, whole-end)
 
 pub root_is : (t : NodeTable) (n : ℕ) (d : NodeData) (rows : List StoredNode) → rows ≡ set t.rows.items 0 (record (get_or t.rows.items 0 a_row) { subtree_end = n })
     → whole_rows t.instructions.items t.high.items rows ≡ set (node_rows t) 0 (record (get_or (node_rows t) 0 d) { subtree_end = n })
@@ -352,15 +301,7 @@ no_text (p ∷ ps) (suc i) = no_text ps i
 
 -- a kind that is not that of elements is none, and one that is not that of texts
 pub other_element : (pis : List PI) (k : StoredKind) → ((a b : ℕ) (c : Bor (List ℕ)) (d e : ℕ) → k ≡ stored.Element a b c d e → ⊥) → false ≡ is_element (whole_kind pis k)
-other_element pis stored.Root n = refl
-other_element pis (stored.Element a b c d e) n = absurd (n a b c d e refl)
-other_element pis (stored.Text p a) n = refl
-other_element pis (stored.Comment p a) n = refl
-other_element pis (stored.Instruction i) n = no_element pis i
+other_element pis k h = grind (arith, no_element)
 
 pub other_text : (pis : List PI) (k : StoredKind) → ((p : ℕ) (a : ManuallyDrop StringStorage) → k ≡ stored.Text p a → ⊥) → false ≡ is_text (whole_kind pis k)
-other_text pis stored.Root n = refl
-other_text pis (stored.Element a b c d e) n = refl
-other_text pis (stored.Text p a) n = absurd (n p a refl)
-other_text pis (stored.Comment p a) n = refl
-other_text pis (stored.Instruction i) n = no_text pis i
+other_text pis k h = grind (arith, no_text)

@@ -20,36 +20,29 @@ use Rattle.rox_scan.specs.Lookahead.{IsStep}
 -- what stands in front of j from i on
 front : (src : List ℕ) (i j : ℕ) → i ≤ j → drop i (take j src) ≡ slice_range src i j
 front src i j le =
-    let e : i + (j - i) ≡ j = omega arith in
-    ap (λ (m : ℕ). drop i (take m src)) (sym e) ∙ drop-take i (j - i) src
+    ap (λ (m : ℕ). drop i (take m src)) (sym (omega arith)) ∙ drop-take i (j - i) src
 
 -- the characters of a stretch
 pub chars_all : (src : List ℕ) (i j : ℕ) → IsUtf8 src → IsCharBoundary src i → IsCharBoundary src j → AreChars src i j → list_all is_char (chars (slice_range src i j)) ≡ true
 unfolding run_end
 chars_all src i j utf8 from to h =
     let le : i ≤ j = omega arith in
-    let f = front src i j le in
-    let text = IsUtf8-between src i j utf8 le from to in
     let long = range_length src i j le to.0 in
-    let h' : i + passing is_char (chars (slice_range src i j)) ≡ j = rw f at h in
-    let spelled = ap length (encodes-chars (slice_range src i j) text) in
+    let h' : i + passing is_char (chars (slice_range src i j)) ≡ j = rw (front src i j le) at h in
+    let spelled = ap length (encodes-chars (slice_range src i j) (IsUtf8-between src i j utf8 le from to)) in
     all_pass is_char (chars (slice_range src i j)) (omega arith)
 
 pub all_chars : (src : List ℕ) (i j : ℕ) → IsUtf8 src → i ≤ j → IsCharBoundary src i → IsCharBoundary src j → list_all is_char (chars (slice_range src i j)) ≡ true → AreChars src i j
 unfolding run_end
 all_chars src i j utf8 le from to h =
-    let f = front src i j le in
-    let text = IsUtf8-between src i j utf8 le from to in
     let long = range_length src i j le to.0 in
     let all = all_passing is_char (chars (slice_range src i j)) h in
-    let spelled = ap length (encodes-chars (slice_range src i j) text) in
-    rw f (omega arith)
+    let spelled = ap length (encodes-chars (slice_range src i j) (IsUtf8-between src i j utf8 le from to)) in
+    rw (front src i j le) (omega arith)
 
 pub chars_joined : (src : List ℕ) (i j k : ℕ) → IsUtf8 src → IsCharBoundary src i → IsCharBoundary src j → IsCharBoundary src k → i ≤ j → j ≤ k → AreChars src i j → AreChars src j k → AreChars src i k
 chars_joined src i j k utf8 a b c le le' f g =
-    let parts = range_parts src i j k le le' c.0 in
-    let text = IsUtf8-between src i j utf8 le a b in
-    let all = ap (list_all is_char) (ap chars parts ∙ chars-append (slice_range src i j) (slice_range src j k) text)
+    let all = ap (list_all is_char) (ap chars (range_parts src i j k le le' c.0) ∙ chars-append (slice_range src i j) (slice_range src j k) (IsUtf8-between src i j utf8 le a b))
     ∙ list_all-append is_char (chars (slice_range src i j)) (chars (slice_range src j k))
     ∙ and_from _ _ (chars_all src i j utf8 a b f) (chars_all src j k utf8 b c g) in
     all_chars src i k utf8 (omega arith) a c all
@@ -149,8 +142,7 @@ wide_bytes src i c stands k more below =
     elim (cases_lt c 128) [
       | inl ascii ↦ absurd (omega (arith, len_utf8_ascii c ascii))
       | inr past ↦ (
-          let at : i + (k - i) ≡ k = omega arith in
-          let read : get_or (drop i src) (k - i) 0 ≡ get_or src k 0 = get_or-drop i src (k - i) 0 ∙ ap (λ (n : ℕ). get_or src n 0) at in
+          let read : get_or (drop i src) (k - i) 0 ≡ get_or src k 0 = get_or-drop i src (k - i) 0 ∙ ap (λ (n : ℕ). get_or src n 0) (omega arith) in
           let each = each_wide (encode_utf8 c) (drop (i + len_utf8 c) src) (encode_wide c past) (k - i) (omega (arith, length-encode c)) in
           omega (arith, each, sym read ∙ ap (λ (l : List ℕ). get_or l (k - i) 0) stands))
     ]

@@ -8,10 +8,9 @@ use Rattle.std.proofs.lemmas.Slice.Eq.{starts_is}
 use Rattle.std.proofs.lemmas.List.{drop_more, get_or_past, get_or-take, drop-drop, take-append-drop, drop-append-le}
 use Rattle.std.proofs.lemmas.List.Folds.{list_any-append}
 use Rattle.rox_grammar.specs.Constructs.{AreChars}
-use Rattle.rox_grammar.specs.FixedTexts.{double_dash}
+use Rattle.rox_grammar.specs.FixedTexts.{double_dash, word_text}
 use Rattle.rox_grammar.specs.Search.{byte_from, mark_from, stands}
 use Rattle.rox_grammar.specs.declared.fault.Word.TheVariants as word
-use Rattle.rox_grammar.specs.FixedTexts.{word_text}
 use Rattle.rox_reading.specs.Lexical.{has_mark, chars_up_to, text_to, string_at}
 use Rattle.rox_reading.specs.Markup.{raw_value_at, comment_at}
 use Rattle.rox_reading.specs.Values.{is_special}
@@ -30,8 +29,7 @@ and_true b = grind arith
 no_front : (mark front whole rest : List ℕ) → whole ≡ front ++ rest → starts_with ◌==◌ whole mark ≡ false → starts_with ◌==◌ front mark ≡ false
 no_front mark front whole rest split none =
     fails (starts_with ◌==◌ front mark) (λ h.
-    let begins = (starts_is Decides-eqb front mark true (sym h)).0 refl in
-    let longer = split ∙ ap (λ (l : List ℕ). l ++ rest) begins ∙ append_assoc mark (drop (length mark) front) rest in
+    let longer = split ∙ ap (λ (l : List ℕ). l ++ rest) ((starts_is Decides-eqb front mark true (sym h)).0 refl) ∙ append_assoc mark (drop (length mark) front) rest in
     false≢true (sym none ∙ (starts_is Decides-eqb whole mark _ refl).1 _ longer))
 
 -- what stands behind a place of a slice
@@ -242,9 +240,8 @@ pub run_on : (src : List ℕ) (i j n e : ℕ) (verbatim : Bool) → IsUtf8 src �
     → n ≤ e → e ≤ length src → AllPass is_text_byte src n e → (e < length src → is_text_byte (get_or src e 0) ≡ false)
     → IsLookahead (ends_run src) changes_run src i e (verbatim && not (changes_run (get_or src j 0)))
 run_on src i j n e verbatim utf8 start f some cut chars wide here le within all stops =
-    let ends = ends_run src in
     let two = run_char src i j n verbatim utf8 start f some cut chars wide here in
-    let three = looked_on changes_run ends src i n e _ true utf8 start two (run_near src n e utf8 cut le within all stops) in
+    let three = looked_on changes_run (ends_run src) src i n e _ true utf8 start two (run_near src n e utf8 cut le within all stops) in
     rw (and_true (verbatim && not (changes_run (get_or src j 0)))) at three
 
 -- what was looked at and the bytes behind it
@@ -342,8 +339,7 @@ first_mark : (src : List ℕ) (s e : ℕ) → IsLookahead (ends_comment src) non
 unfolding mark_from stands
 first_mark src s e f here =
     let at : s + (e - s) ≡ e = omega (arith, f.onward) in
-    let long = length-drop s src in
-    let found = before_mark_is (word_text word.CommentEnd) (drop s src) (e - s) (omega (arith, long, f.cut.0))
+    let found = before_mark_is (word_text word.CommentEnd) (drop s src) (e - s) (omega (arith, (length-drop s src), f.cut.0))
     (λ j below. rw (drop-drop j s src) (fails _ (λ h. false≢true (sym (f.apart (s + j) (omega arith) (omega (arith, f.onward))) ∙ front_dashes src (s + j) h))))
     (λ more. rw (drop-drop (e - s) s src, at) here) in
     omega (arith, found, f.onward)
@@ -365,7 +361,4 @@ no_last src i e f closes = grind (arith, two_dashes, read_last)
 -- what a comment is read as whose end stands behind it
 pub looked_comment : (src : List ℕ) (i s e : ℕ) → s ≡ i + 4 → IsLookahead (ends_comment src) none_changes src s e true → stands (word_text word.CommentEnd) src e ≡ true → comment_at src i ≡ Ok (slice_range src s e, e + 3)
 unfolding comment_at text_to chars_up_to string_at
-looked_comment src i s e start f here =
-    let end = first_mark src s e f here in
-    let clear = mark_within double_dash src s e (omega arith) f.cut.0 f.onward (λ k low high. f.apart k low high) in
-    rw (← start, end, f.chars, le-ltb e e (omega arith), here, clear, no_last src s e f here) refl
+looked_comment src i s e start f here = grind (arith, first_mark, mark_within, no_last)

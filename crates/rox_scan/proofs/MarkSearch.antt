@@ -1,5 +1,5 @@
 -- Where the first mark is.
-use Rattle.std.proofs.Common.{◌≡◌, ℕ, ◌+◌, ◌<◌, ◌≤◌, ◌==◌, List, length, drop, get_or, true, refl, arith}
+use Rattle.std.proofs.Common.{◌≡◌, ℕ, ◌+◌, ◌<◌, ◌≤◌, ◌==◌, List, length, drop, get_or, true, arith}
 use Rattle.std.specs.List.{position_or_len, starts_with}
 use Rattle.std.specs.Str.{IsCharBoundary}
 use Rattle.std.proofs.lemmas.List.Sums.{fails_before_first}
@@ -11,12 +11,7 @@ use Rattle.rox_bytes.specs.ScanResults.{Finds}
 -- A mark whose first byte is ASCII is found between two characters.
 pub mark_first : (mark src : List ℕ) (i n : ℕ) → IsCharBoundary src i → 0 < length mark → get_or mark 0 0 < 128 → n ≡ before_mark mark (drop i src) → Finds src i (i + n) (mark_from mark src i)
 unfolding mark_from
-mark_first mark src i n cut some ascii is =
-    record {
-      place = rw is refl;
-      onward = omega arith;
-      cut = rw is (mark_from_cut mark src i some ascii cut.0);
-    }
+mark_first mark src i n cut some ascii is = grind (arith, mark_from_cut)
 
 -- The mark that stands at the first byte that is its own is the first.
 pub near_first : (mark hay : List ℕ) (n : ℕ) → 0 < length mark → n ≡ position_or_len (λ c. c == get_or mark 0 0) hay → n ≤ length hay → starts_with ◌==◌ (drop n hay) mark ≡ true → before_mark mark hay ≡ n

@@ -1,5 +1,5 @@
 -- A character that begins with 239.
-use Rattle.std.proofs.Common.{◌≡◌, ◌≢◌, ◌⊎◌, ℕ, ◌+◌, ◌<◌, ◌≤◌, ◌==◌, ◌||◌, ◌&&◌, lt-ltb, Bool, true, false, List, [], ◌∷◌, ◌++◌, length, drop, get_or, refl, sym, ap, ◌∙◌, arith, inl, inr, get_or-drop, length-drop}
+use Rattle.std.proofs.Common.{◌≡◌, ◌≢◌, ◌⊎◌, ℕ, ◌+◌, ◌<◌, ◌≤◌, ◌==◌, ◌||◌, ◌&&◌, lt-ltb, Bool, true, false, List, [], ◌∷◌, ◌++◌, length, drop, get_or, sym, ap, ◌∙◌, arith, inl, inr, get_or-drop, length-drop}
 use Rattle.std.specs.Char.{encode_utf8, len_utf8}
 use Rattle.std.specs.Str.{IsUtf8, IsCharBoundary, chars}
 use Rattle.std.proofs.Math.Utf8.{encodes}
@@ -41,11 +41,7 @@ begins_no_char src i = (get_or src (i + 1) 0 == 191) && ((get_or src (i + 2) 0 =
 
 no_char : (src : List ℕ) (i c : ℕ) → StandsAt c src i → (c ≡ 65534) ⊎ (c ≡ 65535) → begins_no_char src i ≡ true
 unfolding encode_utf8
-no_char src i c stands either =
-    elim either [
-      | inl one ↦ (let second = read_at src i c 1 191 stands (rw one refl) in let third = read_at src i c 2 190 stands (rw one refl) in rw (second, third) refl)
-      | inr two ↦ (let second = read_at src i c 1 191 stands (rw two refl) in let third = read_at src i c 2 191 stands (rw two refl) in rw (second, third) refl)
-    ]
+no_char src i c stands either = grind (arith, read_at)
 
 abbrev pub IsWide : List ℕ → ℕ → Type 0
 IsWide src i = IsCharBoundary src (i + 3) × AreChars src i (i + 3) × ((k : ℕ) → i < k → k < i + 3 → 128 ≤ get_or src k 0)
@@ -59,9 +55,7 @@ wide_is src i c utf8 cut within first other rest is =
     let long : len_utf8 c ≡ 3 = sym (length-encode c) ∙ ap length (encode_three c (omega (arith, three.0)) three.1) in
     let passes = most_chars c three.0 (λ h. false≢true (sym other ∙ no_char src i c stands (inl h))) (λ h. false≢true (sym other ∙ no_char src i c stands (inr h))) in
     let next = IsCharBoundary-past_char src rest i c (omega arith) (IsUtf8-drop src i utf8 cut) is in
-    let one = one_char src i c utf8 cut stands next passes in
-    let wide = wide_bytes src i c stands in
-    (rw long at next, rw long at one, rw long at wide)
+    (rw long at next, rw long at (one_char src i c utf8 cut stands next passes), rw long at (wide_bytes src i c stands))
 
 -- any other that begins with 239 is a Char
 pub wide_char : (src : List ℕ) (i : ℕ) → IsUtf8 src → IsCharBoundary src i → i < length src → get_or src i 0 ≡ 239 → begins_no_char src i ≡ false → IsWide src i

@@ -3,7 +3,7 @@ use Rattle.std.specs.Prelude.{◌≡◌, ◌≤◌, ◌<◌, ◌+◌, ◌==◌, 
 use Rattle.std.specs.List.{list_any}
 use Rattle.std.specs.Str.{IsCharBoundary}
 use Rattle.rox_grammar.specs.declared.fault.Word.TheVariants as word
-use Rattle.rox_grammar.specs.FixedTexts.{word_text}
+use Rattle.rox_grammar.specs.FixedTexts.{word_text, double_dash}
 use Rattle.rox_grammar.specs.Search.{byte_from, stands}
 use Rattle.rox_grammar.specs.Chars.{is_char}
 use Rattle.rox_grammar.specs.Runs.{begins}
@@ -11,7 +11,6 @@ use Rattle.rox_grammar.specs.Content.{is_verbatim}
 use Rattle.rox_bytes.specs.ByteSets.{StopsSet, is_text_byte, is_any_value_byte}
 use Rattle.rox_reading.specs.Values.{is_special, raw_character_data_at}
 use Rattle.rox_grammar.specs.Constructs.{AreChars}
-use Rattle.rox_grammar.specs.FixedTexts.{double_dash}
 
 -- The bytes from `i` up to `j` are Chars; `ends` holds at none of them; `verbatim` is true exactly if none passes `changes`.
 pub record IsLookahead (ends : ℕ → Bool) (changes : ℕ → Bool) (src : List ℕ) (i j : ℕ) (verbatim : Bool) : Type 0 where

@@ -22,8 +22,7 @@ unlisted_none p (d ∷ ds) h = let o = or_parts (same_prefix d.prefix p) (is_dec
 pub filtered_none : (f : NamespaceDecl → Bool) (p : Option (List ℕ)) (ds : List NamespaceDecl) → is_declared p ds ≡ false → is_declared p (filter f ds) ≡ false
 filtered_none f p [] h = refl
 filtered_none f p (d ∷ ds) h =
-    let o = or_parts (same_prefix d.prefix p) (is_declared p ds) h in
-    one (f d) (filtered_none f p ds o.1)
+    one (f d) (filtered_none f p ds (or_parts (same_prefix d.prefix p) (is_declared p ds) h).1)
   where
     one : (b : Bool) → is_declared p (filter f ds) ≡ false → is_declared p (if b then d ∷ filter f ds else filter f ds) ≡ false
     one true r = rw (or_parts (same_prefix d.prefix p) (is_declared p ds) h).0 r
@@ -58,12 +57,10 @@ pub unlisted_one : (namespaces : List NamespaceDecl) (places : List ℕ) (i : �
     → entries namespaces (cut i places) ≡ unlisted p (entries namespaces places)
 unlisted_one namespaces [] i p h lt s = absurd (omega arith)
 unlisted_one namespaces (x ∷ xs) zero p (n, h) lt s =
-    let same : (namespace_at namespaces x).prefix ≡ p = same_prefix-true _ _ s in
-    rw s (sym (unlisted_none p (entries namespaces xs) (ap (λ q. is_declared q (entries namespaces xs)) (sym same) ∙ n)))
+    rw s (sym (unlisted_none p (entries namespaces xs) (ap (λ q. is_declared q (entries namespaces xs)) (sym (same_prefix-true _ _ s)) ∙ n)))
 unlisted_one namespaces (x ∷ xs) (suc i) p (n, h) lt s =
-    let other = apart_behind namespaces x xs i p n (omega arith) s in
     let next : suc i + 1 ≡ suc (i + 1) = omega arith in
-    rw (other, next) (ap (λ ys. namespace_at namespaces x ∷ ys) (unlisted_one namespaces xs i p h (omega arith) s))
+    rw ((apart_behind namespaces x xs i p n (omega arith) s), next) (ap (λ ys. namespace_at namespaces x ∷ ys) (unlisted_one namespaces xs i p h (omega arith) s))
 
 -- one more that is not declared yet
 pub once_more : (ds : List NamespaceDecl) (d : NamespaceDecl) → PrefixesOnce ds → is_declared d.prefix ds ≡ false → PrefixesOnce (ds ++ d ∷ [])

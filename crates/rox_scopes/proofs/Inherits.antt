@@ -1,5 +1,5 @@
 -- The loop that lists what an element inherits.
-use Rattle.std.proofs.Common.{◌≡◌, ℕ, ◌+◌, ◌-◌, ◌<◌, ◌≤◌, ◌&&◌, ◌||◌, not, Bool, true, false, List, [], ◌∷◌, ◌++◌, length, map, drop, get_or, ap, ◌∙◌, arith, append_assoc}
+use Rattle.std.proofs.Common.{◌≡◌, ℕ, ◌+◌, ◌<◌, ◌≤◌, ◌&&◌, ◌||◌, not, Bool, true, false, List, [], ◌∷◌, ◌++◌, length, map, drop, get_or, ap, ◌∙◌, arith, append_assoc}
 use Rattle.std.specs.List.{slice_range}
 use Rattle.std.proofs.lemmas.List.{map-append, append-nil, get_or_default, get_or_append_left}
 use Rattle.std.proofs.lemmas.List.Elements.{filter-append}
@@ -55,8 +55,7 @@ pub looked : (rows : List Namespace) (old : List ℕ) (own : ℕ) (xml : Bool) (
     → (place ≡ get_or old turn 0)
     × (r ≡ (is_declared (namespace_at (map namespace_view rows) place).prefix (entries (map namespace_view rows) (drop own old)) || (xml && is_xml (namespace_at (map namespace_view rows) place).prefix)))
 looked rows old own xml from turn end place now seen item r h ok within lt same is test =
-    let namespaces = map namespace_view rows in
     let p : place ≡ get_or old turn 0 = is ∙ ap (λ xs. get_or xs turn place) h.now_is ∙ get_or_append_left old h.more place turn lt ∙ get_or_default old turn place 0 lt in
     let here : place < length rows = rw p (place_at (length rows) old turn 0 ok lt) in
-    let e : namespace_at namespaces place ≡ namespace_view (get_or rows place item) = namespace_at-get rows place item here in
+    let e : namespace_at (map namespace_view rows) place ≡ namespace_view (get_or rows place item) = namespace_at-get rows place item here in
     grind (arith, slice-append, slice-rest)

@@ -29,9 +29,8 @@ cut i xs = take i xs ++ drop (i + 1) xs
 
 pub cut_middle : (a b c : List ℕ) (i : ℕ) → length a ≡ i → length b ≡ 1 → cut i (a ++ (b ++ c)) ≡ a ++ c
 cut_middle a b c i n m =
-    let e : i + 1 ≡ length a + 1 = omega arith in
     let front : take i (a ++ (b ++ c)) ≡ a = ap (λ k. take k (a ++ (b ++ c))) (sym n) ∙ take-append_seam a (b ++ c) in
-    let rest : drop (i + 1) (a ++ (b ++ c)) ≡ c = ap (λ k. drop k (a ++ (b ++ c))) e ∙ drop-append-add a (b ++ c) 1 ∙ behind b m in
+    let rest : drop (i + 1) (a ++ (b ++ c)) ≡ c = ap (λ k. drop k (a ++ (b ++ c))) (omega arith) ∙ drop-append-add a (b ++ c) 1 ∙ behind b m in
     ap (λ xs. xs ++ drop (i + 1) (a ++ (b ++ c))) front ∙ ap (λ xs. a ++ xs) rest
   where
     behind : (b : List ℕ) → length b ≡ 1 → drop 1 (b ++ c) ≡ c
@@ -54,11 +53,9 @@ pub cut_range : (xs : List ℕ) (i j k : ℕ) → i ≤ j → j ≤ length xs �
 cut_range xs i j k ordered within h =
     let a = slice_range xs i (i + k) in
     let b = slice_range xs (i + k) (i + k + 1) in
-    let c = slice_range xs (i + k + 1) j in
-    let parts : slice_range xs i j ≡ a ++ (b ++ c) = grind (arith, range_parts) in
     let n : length a ≡ k = range_length xs i (i + k) (omega arith) (omega arith) ∙ (omega arith) in
     let m : length b ≡ 1 = range_length xs (i + k) (i + k + 1) (omega arith) (omega arith) ∙ (omega arith) in
-    sym (ap (cut k) parts ∙ cut_middle a b c k n m)
+    sym (ap (cut k) (grind (arith, range_parts)) ∙ cut_middle a b (slice_range xs (i + k + 1) j) k n m)
 
 -- the same from the back
 pub cut_back : (xs : List ℕ) (i j k : ℕ) → i ≤ j → j ≤ length xs → k < j - i → reverse (slice_range xs (j - k) j) ++ reverse (slice_range xs i (j - k - 1)) ≡ cut k (reverse (slice_range xs i j))
@@ -67,7 +64,6 @@ cut_back xs i j k ordered within h =
     let b = slice_range xs (j - k - 1) (j - k) in
     let c = slice_range xs (j - k) j in
     let parts : slice_range xs i j ≡ a ++ (b ++ c) = grind (arith, range_parts) in
-    let turned : reverse (slice_range xs i j) ≡ reverse c ++ (reverse b ++ reverse a) = grind (arith, reverse-append, append_assoc) in
     let n : length (reverse c) ≡ k = length-reverse c ∙ range_length xs (j - k) j (omega arith) within ∙ (omega arith) in
     let m : length (reverse b) ≡ 1 = length-reverse b ∙ range_length xs (j - k - 1) (j - k) (omega arith) (omega arith) ∙ (omega arith) in
-    sym (ap (cut k) turned ∙ cut_middle (reverse c) (reverse b) (reverse a) k n m)
+    sym (ap (cut k) (grind (arith, reverse-append, append_assoc)) ∙ cut_middle (reverse c) (reverse b) (reverse a) k n m)

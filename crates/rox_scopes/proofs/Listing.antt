@@ -1,5 +1,5 @@
 -- What an element lists, from what its tag declares.
-use Rattle.std.proofs.Common.{◌≡◌, ℕ, ◌&&◌, ◌||◌, Bool, true, false, cond, List, [], ◌∷◌, ◌++◌, filter, refl, sym, ap, ◌∙◌, Option, Some, append-nil, append_assoc, arith}
+use Rattle.std.proofs.Common.{◌≡◌, ℕ, ◌&&◌, ◌||◌, Bool, true, false, cond, List, [], ◌∷◌, ◌++◌, filter, refl, sym, ap, ◌∙◌, Option, append-nil, append_assoc, arith}
 use Rattle.std.specs.List.{list_any}
 use mathlib.Core.Bool.{or_assoc, false≢true}
 use Rattle.rox_grammar.specs.Written.{NamespaceDecl}
@@ -37,8 +37,7 @@ is_declared-own (d ∷ ds) p = by_cases (is_xml d.prefix) refl (is_declared-own 
     by_cases : (x : Bool) → is_xml d.prefix ≡ x → is_declared p ds ≡ (is_declared p (listable_of ds) || (declares_xml ds && is_xml p))
         → is_declared p (d ∷ ds) ≡ (is_declared p (listable_of (d ∷ ds)) || (declares_xml (d ∷ ds) && is_xml p))
     by_cases true e h =
-        let is : d.prefix ≡ Some _ = same_prefix-true d.prefix _ e in
-        let same : same_prefix d.prefix p ≡ is_xml p = same_prefix-sym d.prefix p ∙ ap (same_prefix p) is in
+        let same : same_prefix d.prefix p ≡ is_xml p = same_prefix-sym d.prefix p ∙ ap (same_prefix p) (same_prefix-true d.prefix _ e) in
         rw (e, same, h) (or_absorb (is_xml p) (is_declared p (listable_of ds)) (declares_xml ds))
     by_cases false e h = rw (e, h) (sym (or_assoc (same_prefix d.prefix p) (is_declared p (listable_of ds)) (declares_xml ds && is_xml p)))
 

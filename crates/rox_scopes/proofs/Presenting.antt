@@ -102,8 +102,7 @@ stacked_popped namespaces lists es f ls (Some l) h = stacked_pop namespaces list
 pub stacked_last : (namespaces : List NamespaceDecl) (lists : List (List NamespaceDecl)) (es : List ShadowedBinding) (f : Places) (least : ℕ) (ls : List ScopeFrame) (l : ScopeFrame) → l.count ≡ length es → Stacked namespaces lists es f least (ls ++ l ∷ [])
     → IsBound namespaces f (scope_at lists l.scope)
 stacked_last namespaces lists es f least [] l e h =
-    let none : drop l.count es ≡ [] = drop_of_length-le es (omega arith) in
-    bound-same namespaces (restored (drop l.count es) f) f _ (λ p. ap (λ xs. restored xs f p) none) h.3
+    bound-same namespaces (restored (drop l.count es) f) f _ (λ p. ap (λ xs. restored xs f p) (drop_of_length-le es (omega arith))) h.3
 stacked_last namespaces lists es f least (x ∷ ls) l e h = stacked_last namespaces lists es f x.count ls l e h.4
 
 pub stacked_push : (namespaces : List NamespaceDecl) (lists : List (List NamespaceDecl)) (es : List ShadowedBinding) (f : Places) (least : ℕ) (ls : List ScopeFrame) (l : ScopeFrame) → l.count ≡ length es → least ≤ length es
@@ -281,15 +280,13 @@ bound_here rows listed i item ds f g ok inside is h =
     let namespaces = map namespace_view rows in
     let place = get_or listed i 0 in
     let here : place < length rows = place_at (length rows) listed i 0 ok inside in
-    let here2 : place < length namespaces = rw (length-map rows namespace_view) here in
     let e : namespace_view (get_or rows place item) ≡ namespace_at namespaces place = sym (namespace_at-get rows place item here) in
-    bound_more namespaces _ f g place here2 (λ p. is p ∙ ap (λ (d : NamespaceDecl). cond (same_prefix d.prefix p) (Some place) (f p)) e) h
+    bound_more namespaces _ f g place (rw (length-map rows namespace_view) here) (λ p. is p ∙ ap (λ (d : NamespaceDecl). cond (same_prefix d.prefix p) (Some place) (f p)) e) h
 
 -- from the back of these places on: none, one more, all
 pub bound_none : (namespaces : List NamespaceDecl) (places : List ℕ) (f : Places) → IsBound namespaces f [] → IsBound namespaces f (entries namespaces (drop (length places - 0) places))
 bound_none namespaces places f h =
-    let none : drop (length places - 0) places ≡ [] = drop_of_length-le places (omega arith) in
-    subst (λ xs. IsBound namespaces f (entries namespaces xs)) (sym none) h
+    subst (λ xs. IsBound namespaces f (entries namespaces xs)) (sym (drop_of_length-le places (omega arith))) h
 
 pub bound_from : (namespaces : List NamespaceDecl) (places : List ℕ) (turn : ℕ) (g : Places) (place : ℕ) → turn < length places → place ≡ get_or places (length places - 1 - turn) 0
     → IsBound namespaces g (namespace_at namespaces place ∷ entries namespaces (drop (length places - turn) places)) → IsBound namespaces g (entries namespaces (drop (length places - (turn + 1)) places))
@@ -297,10 +294,9 @@ bound_from namespaces places turn g place lt at h =
     let i = length places - 1 - turn in
     let inside : i < length places = omega arith in
     let first : length places - (turn + 1) ≡ i = omega arith in
-    let then : length places - turn ≡ i + 1 = omega arith in
     let all : entries namespaces (drop (length places - (turn + 1)) places) ≡ namespace_at namespaces place ∷ entries namespaces (drop (length places - turn) places) =
     ap (λ k. entries namespaces (drop k places)) first ∙ ap (entries namespaces) (drop_one places i 0 inside) ∙ ap (λ p. namespace_at namespaces p ∷ entries namespaces (drop (i + 1) places)) (sym at)
-    ∙ ap (λ k. namespace_at namespaces place ∷ entries namespaces (drop k places)) (sym then) in
+    ∙ ap (λ k. namespace_at namespaces place ∷ entries namespaces (drop k places)) (sym (omega arith)) in
     subst (IsBound namespaces g) (sym all) h
 
 pub bound_all : (namespaces : List NamespaceDecl) (places : List ℕ) (turn : ℕ) (f : Places) → length places ≤ turn → IsBound namespaces f (entries namespaces (drop (length places - turn) places)) → IsBound namespaces f (entries namespaces places)

@@ -351,8 +351,7 @@ few_at ls scopes i s k h lt is less =
     let r = row_found ls scopes i (scope.Few s) h.rows lt is in
     let w : s.until ≤ length ls = ends_found (length ls) scopes i (scope.Few s) h lt is in
     let n : length (places_in ls scopes i) ≡ s.until - s.from = ap length r.lists ∙ range_length ls s.from s.until r.row w in
-    let m : k < s.until - s.from = omega arith in
-    (omega arith, w, sym (ap (λ xs. get_or xs k 0) r.lists ∙ range_get ls s.from s.until k 0 m))
+    (omega arith, w, sym (ap (λ xs. get_or xs k 0) r.lists ∙ range_get ls s.from s.until k 0 (omega arith)))
 
 pub back_at : (ls : List ℕ) (scopes : List Scope) (i : ℕ) (s : Stretch) (k : ℕ) → AreScopes (length ls) scopes → i < length scopes → get_or scopes i no_row ≡ scope.Back s → k < length (places_in ls scopes i)
     → (s.from + k < s.until) × (s.until ≤ length ls) × (get_or ls (s.until - 1 - k) 0 ≡ get_or (places_in ls scopes i) k 0)
@@ -360,15 +359,13 @@ back_at ls scopes i s k h lt is less =
     let r = row_found ls scopes i (scope.Back s) h.rows lt is in
     let w : s.until ≤ length ls = ends_found (length ls) scopes i (scope.Back s) h lt is in
     let n : length (places_in ls scopes i) ≡ s.until - s.from = ap length r.lists ∙ length-reverse (slice_range ls s.from s.until) ∙ range_length ls s.from s.until r.row w in
-    let m : k < s.until - s.from = omega arith in
-    (omega arith, w, sym (ap (λ xs. get_or xs k 0) r.lists ∙ back_get ls s.from s.until k 0 r.row w m))
+    (omega arith, w, sym (ap (λ xs. get_or xs k 0) r.lists ∙ back_get ls s.from s.until k 0 r.row w (omega arith)))
 
 pub both_at : (ls : List ℕ) (scopes : List Scope) (i : ℕ) (b : Concat) → AreScopes (length ls) scopes → i < length scopes → get_or scopes i no_row ≡ scope.Concat b
     → (b.first < i) × (b.rest < i) × (count_at scopes b.first ≡ length (places_in ls scopes b.first)) × (places_in ls scopes i ≡ places_in ls scopes b.first ++ places_in ls scopes b.rest)
 both_at ls scopes i b h lt is =
     let r = row_found ls scopes i (scope.Concat b) h.rows lt is in
-    let f : b.first < i = r.row.0 in
-    (f, r.row.1, count_places ls scopes b.first h (omega arith), r.lists)
+    (r.row.0, r.row.1, count_places ls scopes b.first h (omega arith), r.lists)
 
 pub if_some : {P Q : ℕ → Type 0} (o : Option ℕ) → IfSome o P → ((i : ℕ) → P i → Q i) → IfSome o Q
 if_some o h f = grind arith

@@ -27,10 +27,9 @@ turn_more old from turn end place d now next h le lt is push =
     let n : length rest ≡ length old - from = length-drop from old in
     let m = length-reverse rest in
     let low : end - 1 - turn < length old = omega arith in
-    let k : turn < length rest = omega arith in
     let at : from + (length rest - 1 - turn) ≡ end - 1 - turn = omega arith in
     let one : get_or (reverse rest) turn d ≡ get_or old (end - 1 - turn) d =
-    get_or-reverse rest turn d k ∙ (rw get_or-drop refl) ∙ ap (λ j. get_or old j d) at in
+    get_or-reverse rest turn d (omega arith) ∙ (rw get_or-drop refl) ∙ ap (λ j. get_or old j d) at in
     let same : place ≡ get_or (reverse rest) turn d = is ∙ ap (λ xs. get_or xs (end - 1 - turn) d) h.now_is ∙ get_or_append_left old (take turn (reverse rest)) d (end - 1 - turn) low ∙ sym one in
     grind (arith, append_assoc, take_more)
 
@@ -44,8 +43,6 @@ turned_listed namespaces old new scopes after s i from grown begins ends h push 
     let more = reverse (drop from old) in
     let n : length new ≡ length old + length more = ap length grown ∙ length-append old more in
     let l = ap length push ∙ length-append scopes (scope.Back s ∷ []) in
-    let le : s.from ≤ s.until = omega arith in
-    let wide : s.until ≤ length new = omega arith in
     let slice : slice_range new s.from s.until ≡ more = grind (arith, slice-rest, drop-append_seam) in
     record {
       more = more;
@@ -53,7 +50,7 @@ turned_listed namespaces old new scopes after s i from grown begins ends h push 
       places = λ h. let n = length namespaces in subst (ArePlaces n) (sym grown) (all_append (λ i. i < n) old more h (all_reverse n (drop from old) (all_drop (λ i. i < n) from old h)));
       more_rows = scope.Back s ∷ [];
       rows_grown = push;
-      scopes_are = scopes_push (length new) scopes after (scope.Back s) push (scopes_more (length old) (length new) scopes (omega arith) h) le wide;
+      scopes_are = scopes_push (length new) scopes after (scope.Back s) push (scopes_more (length old) (length new) scopes (omega arith) h) (omega arith) (omega arith);
       within = omega arith;
       lists = ap (entries namespaces) (pushed_places new scopes after (scope.Back s) i push last ∙ ap (reverse {A = ℕ}) slice ∙ reverse-reverse (drop from old));
     }
@@ -63,15 +60,13 @@ pub few_listed : (namespaces : List NamespaceDecl) (old : List ℕ) (scopes afte
     → AreScopes (length old) scopes → after ≡ scopes ++ scope.Few s ∷ [] → i ≡ length scopes → IsListed namespaces old scopes old after i (entries namespaces (drop own old))
 few_listed namespaces old scopes after s i own begins le ends h push last =
     let l = ap length push ∙ length-append scopes (scope.Few s ∷ []) in
-    let ordered : s.from ≤ s.until = omega arith in
-    let wide : s.until ≤ length old = omega arith in
     record {
       more = [];
       grown = sym (append-nil old);
       places = λ h. h;
       more_rows = scope.Few s ∷ [];
       rows_grown = push;
-      scopes_are = scopes_push (length old) scopes after (scope.Few s) push h ordered wide;
+      scopes_are = scopes_push (length old) scopes after (scope.Few s) push h (omega arith) (omega arith);
       within = omega arith;
       lists = ap (entries namespaces) (pushed_places old scopes after (scope.Few s) i push last ∙ ap (slice_range old s.from) ends ∙ slice-rest old s.from ∙ ap (λ k. drop k old) begins);
     }

@@ -1,5 +1,5 @@
 -- A run that is a line end and bytes that stand for themselves.
-use Rattle.std.proofs.Common.{◌≡◌, ◌<◌, ◌≤◌, ◌==◌, ◌||◌, ◌+◌, ◌-◌, zero, suc, ℕ, Bool, true, false, List, [], ◌∷◌, Ok, Err, get_or, take, drop, length, slice_index, slice_range, if◌then◌else◌, refl, sym, ap, ◌∙◌, arith, inl, inr, append-nil, subst}
+use Rattle.std.proofs.Common.{◌≡◌, ◌<◌, ◌≤◌, ◌==◌, ◌||◌, ◌+◌, ◌-◌, zero, suc, ℕ, Bool, true, false, List, [], ◌∷◌, Ok, Err, get_or, take, drop, length, slice_range, if◌then◌else◌, refl, sym, ap, ◌∙◌, arith, inl, inr, append-nil, subst}
 use Rattle.std.specs.List.{position_or_len}
 use Rattle.std.proofs.lemmas.Bool.Decides.{eqb_tells, leb_tells}
 use Rattle.std.proofs.lemmas.Bool.{lt-ltb, le-ltb}
@@ -30,22 +30,18 @@ neither x xs h =
 first_bit : (es : List Entity) (src : List ℕ) (i j : ℕ) → IsLine src i j → data_bit_at true es src j i ≡ Ok (bytes_of (10 ∷ []), i + 1 + 1)
 unfolding data_bit_at
 first_bit es src i j h =
-    let feed : slice_index (take j src) (i + 1) ≡ 10 = get_or-take j src (i + 1) 0 h.some ∙ h.feed in
     let two : i + 2 ≡ i + 1 + 1 = omega arith in
-    rw (h.cr, feed, two) refl
+    rw (h.cr, (get_or-take j src (i + 1) 0 h.some ∙ h.feed), two) refl
 
 -- and what stands behind it
 second_bit : (es : List Entity) (src : List ℕ) (i j : ℕ) → IsLine src i j → i + 1 + 1 < j → data_bit_at true es src j (i + 1 + 1) ≡ Ok (bytes_of (slice_range src (i + 1 + 1) j), j)
 unfolding data_bit_at byte_from
 second_bit es src i j h more =
     let count = length-take-le j src h.within in
-    let here : drop (i + 1 + 1) (take j src) ≡ get_or (take j src) (i + 1 + 1) 0 ∷ drop (i + 1 + 1 + 1) (take j src) = drop_more (take j src) (i + 1 + 1) 0 (omega arith) in
-    let rest = subst (λ (xs : List ℕ). i + 1 + 1 + position_or_len (λ c. c == 38 || c == 13) xs ≡ j) here h.rest in
+    let rest = subst (λ (xs : List ℕ). i + 1 + 1 + position_or_len (λ c. c == 38 || c == 13) xs ≡ j) (drop_more (take j src) (i + 1 + 1) 0 (omega arith)) h.rest in
     let n = neither (get_or (take j src) (i + 1 + 1) 0) (drop (i + 1 + 1 + 1) (take j src)) (omega (arith, rest)) in
     let byte = get_or-take j src (i + 1 + 1) 0 more in
-    let amp = rw byte at n.0 in
-    let cr = rw byte at n.1 in
-    rw (amp, cr, h.rest) refl
+    rw ((rw byte at n.0), (rw byte at n.1), h.rest) refl
 
 -- nothing stands at the end
 no_part : (es : List Entity) (n : ℕ) (src : List ℕ) (j : ℕ) → data_part true es n src j j ≡ Ok ([], at_end)
@@ -55,9 +51,8 @@ no_part es (suc n) src j = rw (le-ltb j j (omega arith)) refl
 
 one_more : (src : List ℕ) (a b : ℕ) → a < b → b ≤ length src → slice_range src a b ≡ get_or src a 0 ∷ slice_range src (a + 1) b
 one_more src a b some within =
-    let first = drop_more src a 0 (omega arith) in
     let n : b - a ≡ suc (b - (a + 1)) = omega arith in
-    rw (first, n) refl
+    rw ((drop_more src a 0 (omega arith)), n) refl
 
 rest_part : (es : List Entity) (src : List ℕ) (i j m : ℕ) → IsLine src i j → data_part true es (suc m) src j (i + 1 + 1) ≡ Ok (slice_range src (i + 1 + 1) j, at_end)
 unfolding data_part

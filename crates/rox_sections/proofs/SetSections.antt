@@ -49,8 +49,7 @@ first_end : (src : List ℕ) (s e : ℕ) → s ≤ e → e ≤ length src → Al
 unfolding mark_from stands
 first_end src s e le within all here =
     let at : s + (e - s) ≡ e = omega arith in
-    let long = length-drop s src in
-    let found = before_mark_is (word_text word.CDataEnd) (drop s src) (e - s) (omega (arith, long))
+    let found = before_mark_is (word_text word.CDataEnd) (drop s src) (e - s) (omega (arith, (length-drop s src)))
     (λ j below. not_from_first (word_text word.CDataEnd) (drop s src) j (omega arith) (λ is. section_no_bracket _ (all (s + j) (omega arith) (omega arith)) (sym (get_or-drop s src j 0) ∙ is)))
     (λ more. rw (drop-drop (e - s) s src, at) here) in
     omega (arith, found)
@@ -59,9 +58,8 @@ first_end src s e le within all here =
 pub set_read : (src : List ℕ) (i s e : ℕ) → IsUtf8 src → IsCharBoundary src s → s ≡ i + 9 → s ≤ e → IsCharBoundary src e → AllPass is_section_byte src s e → stands (word_text word.CDataEnd) src e ≡ true → cdata_at src i ≡ Ok (slice_range src s e, e + 3)
 unfolding cdata_at text_to chars_up_to string_at
 set_read src i s e utf8 start is le cut all here =
-    let end = first_end src s e le cut.0 all here in
     let chars = near_chars is_section_byte src s e utf8 start le cut all section_is_plain in
-    rw (← is, end, chars, le-ltb e e (omega arith), here) refl
+    rw (← is, (first_end src s e le cut.0 all here), chars, le-ltb e e (omega arith), here) refl
 
 -- it has no CR
 pub set_verbatim : (src : List ℕ) (s e : ℕ) → s ≤ e → e ≤ length src → AllPass is_section_byte src s e → section_text (slice_range src s e) ≡ record { value = slice_range src s e; borrowed = true }
@@ -74,6 +72,5 @@ set_verbatim src s e le within all =
 -- its text ends between two characters
 pub end_cut : (src : List ℕ) (e : ℕ) → stands (word_text word.CDataEnd) src e ≡ true → IsCharBoundary src e
 end_cut src e here =
-    let none : e ≡ e + 0 = omega arith in
-    let read : get_or src e 0 ≡ 93 = ap (λ (k : ℕ). get_or src k 0) none ∙ stands_reads (word_text word.CDataEnd) src e 0 here (omega arith) in
+    let read : get_or src e 0 ≡ 93 = ap (λ (k : ℕ). get_or src k 0) (omega arith) ∙ stands_reads (word_text word.CDataEnd) src e 0 here (omega arith) in
     IsCharBoundary-before_ascii src e (within_text src e 93 (omega arith) read) (omega (arith, read))

@@ -1,5 +1,5 @@
 -- Constructs that are read one behind another, in a loop.
-use Rattle.std.proofs.Common.{◌≡◌, ℕ, suc, ◌+◌, ◌<◌, ◌≤◌, false, List, length, vec_len, slice_index, refl, sym, ap, subst, ◌∙◌, arith, Result, Ok}
+use Rattle.std.proofs.Common.{◌≡◌, ℕ, ◌+◌, ◌<◌, ◌≤◌, false, List, length, vec_len, slice_index, refl, sym, ap, subst, ◌∙◌, arith, Result, Ok}
 use Rattle.rox_grammar.specs.State.{Open, root, inside, is_root}
 use Rattle.rox_grammar.specs.Written.{Text}
 use Rattle.rox_grammar.specs.declared.failure.Failure.{Failure}
@@ -71,8 +71,7 @@ run_behind context end src s t c d b u h inner opens sees here =
 steps_then : (context : Context) (src : List ℕ) (n m : ℕ) (s t u : State) → Steps context src n s t → Steps context src m t u → Steps context src (n + m) s u
 steps_then context src n m s t u (no_step _) more = let e : m ≡ 0 + m = omega arith in subst (λ (j : ℕ). Steps context src j s u) e more
 steps_then context src n m s t u (one_more k _ r _ inner within read rest) more =
-    let e : suc (k + m) ≡ suc k + m = omega arith in
-    subst (λ (j : ℕ). Steps context src j s u) e (one_more (k + m) s r u inner within read (steps_then context src k m r t u rest more))
+    subst (λ (j : ℕ). Steps context src j s u) (omega arith) (one_more (k + m) s r u inner within read (steps_then context src k m r t u rest more))
 
 -- what was read, and what was read behind it
 pub reads_then : (context : Context) (end n m : ℕ) (src : List ℕ) (s : State) (c d : Cursor) (b u : Builder) (x : Reads context end n c b src s) → Reads context end m d u src x.behind → Reads context end (n + m) d u src s

@@ -5,28 +5,25 @@ use Rattle.std.proofs.lemmas.Bool.{cases_eq, eqb-true, and_right}
 use Rattle.std.specs.Int.{bit_at, w64}
 use Rattle.std.specs.Int.Bits.{bit_and, bit_or}
 use Rattle.std.proofs.lemmas.Nat.Bits.{shr_and_one, bit_at_set_same, bit_at_set_other}
-use Rattle.std.proofs.lemmas.List.{get_or-set_same, get_or-set_other}
-use Rattle.std.proofs.lemmas.List.{drop-append-le, drop-map, drop_more}
+use Rattle.std.proofs.lemmas.List.{get_or-set_same, get_or-set_other, drop-append-le, drop-map, drop_more}
 use Rattle.std.proofs.Math.ListN.{drop_of_length-le}
 use Rattle.std.proofs.lemmas.Slice.Eq.{bytes_eq-Decides}
 use Rattle.rox_grammar.specs.Written.{NamespaceDecl}
 use Rattle.rox_grammar.specs.Tree.{same_prefix}
 use Rattle.rox_rows.specs.Rows.{AttributeRow, attribute_rows, attribute_uri}
 use Rattle.rox_rows.specs.StoredAttributes.{data_of, row_in}
-use Rattle.rox_seen.specs.SeenNames.{has_expanded}
+use Rattle.rox_seen.specs.SeenNames.{has_expanded, name_code, HasCode, HasNameOf, HaveCodes, AreSeen, KeepsCodes, SeesName}
 use Rattle.rox_rows.specs.declared.row.AttributeNamespace.{AttributeNamespace}
 use Rattle.rox_rows.specs.declared.attributes.AttributeTable.{AttributeTable}
 use Rattle.rox_rows.specs.declared.stored_attribute.StoredAttribute.{StoredAttribute}
 use Rattle.rox_seen.specs.declared.seen_names.SeenNames.{SeenNames}
-use Rattle.rox_seen.specs.SeenNames.{name_code, HasCode, HasNameOf, HaveCodes, AreSeen, KeepsCodes, SeesName}
 use Rattle.rox_reading.proofs.Lists.{all_append, all_weaker}
 
 -- a code whose bit is clear is not there
 pub not_there : (codes : List ℕ) (code : ℕ) → eqb (bit_and (get_or codes (code / 64) 0 / 2 ^ (code % 64)) 1) 1 ≡ false → HasCode codes code → ⊥
 unfolding HasCode
 not_there codes code clear has =
-    let set : bit_and (get_or codes (code / 64) 0 / 2 ^ (code % 64)) 1 ≡ 1 = shr_and_one (get_or codes (code / 64) 0) (code % 64) ∙ has in
-    cc (clear, ap (λ b. eqb b 1) set)
+    cc (clear, ap (λ b. eqb b 1) (shr_and_one (get_or codes (code / 64) 0) (code % 64) ∙ has))
 
 -- a code whose bit is set is there
 pub is_there : (codes : List ℕ) (code : ℕ) → eqb (bit_and (get_or codes (code / 64) 0 / 2 ^ (code % 64)) 1) 1 ≡ true → HasCode codes code
@@ -91,9 +88,8 @@ pub seen_more : (old new : SeenNames) (rows more : List AttributeRow) (row : Att
     → SeesName old new row.0.local.now → HaveCodes old rows → HaveCodes new more
 seen_more old new rows more row grown within sees seen =
     let P : AttributeRow → Type 0 = λ a. HasNameOf new.codes a.0 in
-    let Q : AttributeRow → Type 0 = λ a. HasNameOf old.codes a.0 in
     let behind : drop new.from more ≡ drop old.from rows ++ row ∷ [] = ap (λ n. drop n more) sees.from ∙ ap (drop old.from) grown ∙ drop-append-le old.from rows (row ∷ []) within in
-    let weaker : AllByRecursion P (drop old.from rows) = all_weaker Q P (drop old.from rows) (λ a h. sees.kept (name_code a.0.local.now) h) seen in
+    let weaker : AllByRecursion P (drop old.from rows) = all_weaker (λ a. HasNameOf old.codes a.0) P (drop old.from rows) (λ a h. sees.kept (name_code a.0.local.now) h) seen in
     subst (AllByRecursion P) (sym behind) (all_append P (drop old.from rows) (row ∷ []) weaker (sees.put, tt))
 
 -- so it was seen
@@ -107,8 +103,7 @@ are_more old new rows more row grown within sees seen = record {
 -- before the first
 pub seen_first : (seen : SeenNames) (rows : List AttributeRow) → seen.from ≡ length rows → HaveCodes seen rows
 seen_first seen rows from =
-    let none : drop seen.from rows ≡ [] = drop_of_length-le rows (omega arith) in
-    subst (AllByRecursion (λ (a : AttributeRow). HasNameOf seen.codes a.0)) (sym none) tt
+    subst (AllByRecursion (λ (a : AttributeRow). HasNameOf seen.codes a.0)) (sym (drop_of_length-le rows (omega arith))) tt
 
 -- where the codes and the tag stay
 pub seen_kept : (seen after : SeenNames) (rows : List AttributeRow) → KeepsCodes seen after → AreSeen seen rows → AreSeen after rows
@@ -144,8 +139,7 @@ pub three_seen : (seen : SeenNames) (t : AttributeTable) (x y z : StoredAttribut
 three_seen seen t x y z count first second third a b c =
     let items = last_three t.items.items seen.from x y z count first second third in
     let row = row_in t.explicit.items in
-    let rows : drop seen.from (attribute_rows t) ≡ row x ∷ row y ∷ row z ∷ [] = drop-map row seen.from t.items.items ∙ ap (map row) items in
-    subst (AllByRecursion (λ (a : AttributeRow). HasNameOf seen.codes a.0)) (sym rows) (a, (b, (c, tt)))
+    subst (AllByRecursion (λ (a : AttributeRow). HasNameOf seen.codes a.0)) (sym (drop-map row seen.from t.items.items ∙ ap (map row) items)) (a, (b, (c, tt)))
 
 -- four have
 pub four_seen : (seen : SeenNames) (t : AttributeTable) (x y z w : StoredAttribute) → length t.items.items ≡ seen.from + 4
@@ -154,8 +148,7 @@ pub four_seen : (seen : SeenNames) (t : AttributeTable) (x y z w : StoredAttribu
 four_seen seen t x y z w count first second third fourth a b c d =
     let items = last_four t.items.items seen.from x y z w count first second third fourth in
     let row = row_in t.explicit.items in
-    let rows : drop seen.from (attribute_rows t) ≡ row x ∷ row y ∷ row z ∷ row w ∷ [] = drop-map row seen.from t.items.items ∙ ap (map row) items in
-    subst (AllByRecursion (λ (a : AttributeRow). HasNameOf seen.codes a.0)) (sym rows) (a, (b, (c, (d, tt))))
+    subst (AllByRecursion (λ (a : AttributeRow). HasNameOf seen.codes a.0)) (sym (drop-map row seen.from t.items.items ∙ ap (map row) items)) (a, (b, (c, (d, tt))))
 
 -- no row has a name whose code was not seen
 pub none_rows : (namespaces : List NamespaceDecl) (s : AttributeNamespace) (local : List ℕ) (codes : List ℕ) (rows : List AttributeRow)

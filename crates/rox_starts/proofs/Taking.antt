@@ -111,8 +111,7 @@ attribute_gives src i raw j h =
     let made : RawAttribute = record { start = i; name = name.0; name_end = name.1; value_start = quote.1; value_end = value.1 } in
     let k : ◌≡◌ {A = RawAttribute × ℕ} (made, done.1) (raw, j) = same_ok (made, done.1) (raw, j) h in
     let r : made ≡ raw = ap (λ p. p.0) k in
-    let e : done.1 ≡ j = ap (λ p. p.1) k in
-    (sym (ap (λ r. r.start) r), sym e ∙ byte_next quote.0 src value.1 done.0 done.1 is ∙ ap (λ r. r.value_end + 1) r))))))
+    (sym (ap (λ r. r.start) r), sym (ap (λ p. p.1) k) ∙ byte_next quote.0 src value.1 done.0 done.1 is ∙ ap (λ r. r.value_end + 1) r))))))
   where
     same_ok : (p q : RawAttribute × ℕ) → ◌≡◌ {A = Result (RawAttribute × ℕ) Fault} (Ok p) (Ok q) → p ≡ q
     same_ok p q h = cc h

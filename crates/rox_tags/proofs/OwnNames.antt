@@ -45,8 +45,7 @@ pub first_part : (src : List ℕ) (i b : ℕ) → IsUtf8 src → HasXmlns src i 
 first_part src i b utf8 h is ascii stops =
     let within = h.behind in
     let all = all_parts src i h in
-    let at : i + 0 ≡ i = omega arith in
-    let byte : slice_index src i ≡ 120 = ap (slice_index src) (sym at) ∙ byte_of src i 0 h (omega arith) in
+    let byte : slice_index src i ≡ 120 = ap (slice_index src) (sym (omega arith)) ∙ byte_of src i 0 h (omega arith) in
     let cut : IsCharBoundary src i = (omega arith, λ more wide. absurd (omega (arith, byte, wide))) in
     grind (arith, part_stops, part_begins)
 

@@ -1,7 +1,6 @@
 -- Start tags that are read at one look.
-use Rattle.std.proofs.Common.{◌≡◌, ◌≢◌, ℕ, ◌+◌, ◌<◌, true, false, List, [], ◌∷◌, Option, length, map, slice_index, refl, sym, ap, ◌∙◌, arith, Ok, bytes_eq}
+use Rattle.std.proofs.Common.{◌≡◌, ◌≢◌, ℕ, ◌+◌, ◌<◌, true, false, List, [], ◌∷◌, Option, length, map, slice_index, refl, sym, ap, ◌∙◌, arith, Ok, bytes_eq, Some}
 use Rattle.std.proofs.lemmas.Bool.{lt-leb}
-use Rattle.std.proofs.Common.{Some}
 use Rattle.rox_scopes.specs.declared.namespace.Namespace.{Namespace}
 use Rattle.std.specs.Option.{option_map, is_some}
 use Rattle.rox_grammar.specs.WellNamed.{may_name}

@@ -51,8 +51,7 @@ pub repeated : (t : ElementTables) (above n : ℕ) (d : NamespaceDecl) (table : 
 repeated t above n d table places around same places_are around_is within one absent =
     let names = map namespace_view t.namespaces.items.items in
     let is : namespace_at names one.first ≡ d = rw same at one.is in
-    let long = length-map t.namespaces.items.items namespace_view in
-    let there : one.first < length names = rw (long, ← same) one.within in
+    let there : one.first < length names = rw ((length-map t.namespaces.items.items namespace_view), ← same) one.within in
     let lists : scope_in_tables t n ≡ entries names (one.first ∷ around) = scope_places names t.listed.items t.scopes.items n ∙ ap (entries names) (sym places_are ∙ one.are) in
     let others : entries names around ≡ scope_in_tables t above = ap (entries names) around_is ∙ sym (scope_places names t.listed.items t.scopes.items above) in
     grind (arith, pair_at)
@@ -87,7 +86,6 @@ pairs_stay names d other has = ap (with_new names) (listable_one d other) ∙ kn
 pub begins_repeating : (t : ElementTables) (o : OpenElement) (src : List ℕ) (k : ℕ) (one : UnresolvedAttribute) (n : ℕ) → MayOpenBelow t o → Repeats t o.scope (unresolved_view one) n → IsNearDeclaration src k one
     → Begins t o.scope n (namespace_decl_of (unresolved_view one) ∷ []) src k one.end
 begins_repeating t o src k one n below x near =
-    let above = scope_in_tables t o.scope in
     let names = map namespace_view t.namespaces.items.items in
     let view = unresolved_view one in
     let d = namespace_decl_of view in
@@ -103,7 +101,7 @@ begins_repeating t o src k one n below x near =
     let turns : length src ≡ suc left = omega arith in
     record {
       scope = repeated_once t o.scope n d (scope_of_parent t o below) x.scope;
-      lists = x.scope.lists ∙ sym (lists_one d above x.other x.scope.absent);
+      lists = x.scope.lists ∙ sym (lists_one d (scope_in_tables t o.scope) x.other x.scope.absent);
       pairs = stay;
       turns = left;
       enough = omega arith;

@@ -137,11 +137,10 @@ turn_item : (src : List ℕ) (i j n : ℕ) (a : UnresolvedAttribute) (held : Tag
     → attributes_at (suc n) context cut known src i openings_left held ≡ (lifted (taken known (unresolved_view a) held) >>= λ x. attributes_at n context cut known src a.end openings_left x)
 unfolding attributes_at
 turn_item src i j n a held context cut known openings_left h within item =
-    let k = lt-leb (length src) i within in
     let v = h.value context.main context.entities context.opener openings_left in
     let view : attribute_with (record { start = j; name = name_view a.name; name_end = a.name_end; value_start = a.value_start; value_end = h.value_end }) (record { value = storage_bytes a.value; borrowed = is_borrowed a.value }) ≡ unresolved_view a =
     rw (h.start, h.end) refl in
-    rw (k, item, v) (ap (λ (x : Attribute). lifted (taken known x held) >>= λ y. attributes_at n context cut known src a.end openings_left y) view)
+    rw ((lt-leb (length src) i within), item, v) (ap (λ (x : Attribute). lifted (taken known x held) >>= λ y. attributes_at n context cut known src a.end openings_left y) view)
 
 taken_other : (known : List NamespaceDecl) (a : Attribute) (held : TagSoFar) → is_namespace_decl a.name ≡ false → taken known a held ≡ Ok (record { own = held.own; attributes = held.attributes ++ a ∷ [] })
 taken_other known a held other = rw other refl
@@ -154,8 +153,7 @@ pub turn_is : (src : List ℕ) (i j n : ℕ) (a : UnresolvedAttribute) (held aft
     → attributes_at (suc n) context cut known src i openings_left held ≡ attributes_at n context cut known src a.end openings_left after
 turn_is src i j n a held after context cut known openings_left plain onward spaces some slash close h =
     let fits = plain.cut.0 in
-    let within : j < length src = omega arith in
-    turn_item src i j n a held context cut known openings_left plain (omega arith) (item_more src i j a.end _ spaces some slash close within plain.read) ∙ rw h refl
+    turn_item src i j n a held context cut known openings_left plain (omega arith) (item_more src i j a.end _ spaces some slash close (omega arith) plain.read) ∙ rw h refl
 
 -- ---- what is read so far
 
@@ -183,7 +181,6 @@ plain_more declares known namespaces scope own few present src start old i j now
     let on = plain.onward in
     let fits = plain.cut.0 in
     let enough = g.enough in
-    let behind : drop (length old) now ≡ g.more = ap (drop (length old)) g.rows ∙ drop-append_seam old g.more in
     record {
       written = g.written ++ view ∷ [];
       more = g.more ++ row ∷ [];
@@ -191,13 +188,12 @@ plain_more declares known namespaces scope own few present src start old i j now
       within = all_append (λ a. NamespaceWithin (length namespaces) a.0.namespace) g.more (row ∷ []) g.within (r.within, tt);
       shown = grind (arith, map-append);
       tested = λ rest. ap (names_tested scope []) (append_assoc g.written (view ∷ []) rest) ∙ g.tested (view ∷ rest)
-          ∙ r.tested scope g.written rest h (ap (map (attribute namespaces)) behind ∙ g.shown);
+          ∙ r.tested scope g.written rest h (ap (map (attribute namespaces)) (ap (drop (length old)) g.rows ∙ drop-append_seam old g.more) ∙ g.shown);
       turns = g.turns + 1;
       enough = omega arith;
       read = λ context cut openings_left rest before such.
-          let one : g.turns + 1 + rest ≡ g.turns + suc rest = omega arith in
           let held = holding (before ++ own) g.written in
-          ap (λ (m : ℕ). attributes_at m context cut known src start openings_left (holding before [])) one ∙ g.read context cut openings_left (suc rest) before such
+          ap (λ (m : ℕ). attributes_at m context cut known src start openings_left (holding before [])) (omega arith) ∙ g.read context cut openings_left (suc rest) before such
           ∙ turn_is src i j rest a held _ context cut known openings_left plain onward spaces some slash close (taken_other known view held other);
     }
 
@@ -251,8 +247,7 @@ plain_declared namespaces next own after src start old i j now a g onward spaces
       turns = g.turns + 1;
       enough = omega arith;
       read = λ context cut openings_left rest before none.
-          let one : g.turns + 1 + rest ≡ g.turns + suc rest = omega arith in
-          rw none (ap (λ (m : ℕ). attributes_at m context cut [] src start openings_left (holding [] [])) one ∙ g.read context cut openings_left (suc rest) [] refl
+          rw none (ap (λ (m : ℕ). attributes_at m context cut [] src start openings_left (holding [] [])) (omega arith) ∙ g.read context cut openings_left (suc rest) [] refl
           ∙ turn_is src i j rest a held _ context cut [] openings_left plain onward spaces some slash close (taken_declared [] view held _ is h));
     }
   where
@@ -279,8 +274,7 @@ plain_ends : (declares : Bool) (known namespaces scope own : List NamespaceDecl)
     → (g : PlainSoFar declares known namespaces scope own src start old i now) → i < length src → tag_item_at src i ≡ Ok (item, j) → IsEnd item empty → ReadsUpTo declares known own g.written src start j empty
 plain_ends declares known namespaces scope own src start old i j now item empty g within is h = λ context cut openings_left turns before fits such.
     let rest = turns - g.turns - 1 in
-    let one : turns ≡ g.turns + suc rest = omega arith in
-    ap (λ (m : ℕ). attributes_at m context cut known src start openings_left (holding before [])) one ∙ g.read context cut openings_left (suc rest) before such
+    ap (λ (m : ℕ). attributes_at m context cut known src start openings_left (holding before [])) (omega arith) ∙ g.read context cut openings_left (suc rest) before such
     ∙ end_is src i rest j item empty (holding (before ++ own) g.written) context cut known openings_left within is h
 
 holds_end : (tag : TagScope) (old t : ElementTables) (src : List ℕ) (start i end : ℕ) (empty : Bool) → (g : HoldsSoFar tag old t src start i)

@@ -102,9 +102,8 @@ module _ (src : List ℕ) (utf8 : IsUtf8 src) (allow : Bool) where
       (λ i read. either (misc limit (length src) src (state i Nil root 255))
       (λ s first.
       let may = prolog_sound src utf8 (after_bom src) i read in
-      let cut = prolog_cut src utf8 (after_bom src) i (bom_cut src utf8) may in
       let start : IsValidState most (state i Nil root 255) = record { nodes = omega arith; attributes = omega arith; pairs = omega arith; named = tt } in
-      let ahead = misc_sound src utf8 (length src) limit most 255 i Nil s (omega arith) cut start first in
+      let ahead = misc_sound src utf8 (length src) limit most 255 i Nil s (omega arith) (prolog_cut src utf8 (after_bom src) i (bom_cut src utf8) may) start first in
       let s_is : s ≡ state s.at ahead.0 root 255 = ahead.2 in
       let dtd = doctype_asked i s.at ahead.0 may ahead.1 limit most replies (omega arith) texts (subst (IsValidState most) s_is ahead.3) in
       let dtd' : AskedOutcome src allow (whole.doctype limit allow src (record { state = s; entities = []; replies = replies })) =

@@ -4,7 +4,7 @@ use Rattle.std.specs.List.{starts_with}
 use Rattle.std.specs.Str.{IsUtf8, IsCharBoundary}
 use Rattle.std.specs.Char.{encode_utf8}
 use Rattle.std.proofs.lemmas.Str.{IsCharBoundary-start, IsCharBoundary-after_ascii, IsCharBoundary-at_seam, IsUtf8-past_char}
-use Rattle.std.proofs.lemmas.Bool.{false_from_ne_true, cond_both, false≢true}
+use Rattle.std.proofs.lemmas.Bool.{false_from_ne_true, cond_both}
 use Rattle.std.proofs.lemmas.Bool.Decides.{Decides-eqb}
 use Rattle.std.proofs.lemmas.Slice.Eq.{starts_is}
 use Rattle.rox_grammar.specs.declared.fault.Word.TheVariants as word
@@ -38,7 +38,7 @@ use Rattle.rox_theory.proofs.Productions.{comment_parts, pi_parts, end_parts}
 use Rattle.rox_theory.proofs.Basics.{within as byte_within, ok_same, bind_ok, chosen}
 use Rattle.rox_theory.proofs.Constructions.{name_byte, comment_bytes, instruction_bytes, doctype_bytes}
 use Rattle.rox_theory.proofs.NameLemmas.{run_stops}
-use Rattle.rox_theory.proofs.DeclarationLemmas.{stands_reads, declaration_opens, declaration_sound, declaration_complete}
+use Rattle.rox_theory.proofs.DeclarationLemmas.{stands_reads, declaration_sound, declaration_complete}
 use Rattle.rox_theory.proofs.Places.{over_spaces, spaces_on, space_within}
 use Rattle.rox_theory.proofs.CharTexts.{run_cut}
 use Rattle.rox_theory.proofs.Standing.{IsValidState}
@@ -190,10 +190,7 @@ module _ (src : List ℕ) (utf8 : IsUtf8 src) where
   one_misc : (n limit b i j : ℕ) (item : Item) (done : Forest Item) (u : State) → IsMisc src i j item → size (merge (join done (leaf item))) + 1 ≤ limit
       → misc limit n src (state j (join done (leaf item)) root b) ≡ Ok u → misc limit (suc n) src (state i done root b) ≡ Ok u
   unfolding misc comment_step instruction_step
-  one_misc n limit b i j item done u (comment _ e _ is) fits rest =
-      let bytes = comment_bytes src i (comment_parts is).opens in
-      let counts = fits_counted limit (with_leaf (state i done root b) j item) (omega arith) in
-      rw (no_spaces src i bytes.1, (comment_parts is).opens, comment_complete src i e j is, counts) rest
+  one_misc n limit b i j item done u (comment _ e _ is) fits rest = grind (arith, comment_bytes, comment_parts, no_spaces, comment_complete)
   one_misc n limit b i j item done u (instruction _ t e _ is) fits rest =
       let bytes = instruction_bytes src i (pi_parts is).opens in
       let none : at word.CommentStart src i ≡ false = false_from_ne_true _ (λ h. let other = comment_bytes src i h in omega arith) in
@@ -236,8 +233,7 @@ module _ (src : List ℕ) (utf8 : IsUtf8 src) where
   -- What is there is read.
   pub prolog_complete : (i j : ℕ) → MayHaveXmlDecl src i j → prolog src i ≡ Ok j
   unfolding prolog
-  prolog_complete i j (declared _ _ is) = rw (declaration_opens src i j is, declaration_complete src utf8 i j is) refl
-  prolog_complete i j (not_declared _ none) = rw none refl
+  prolog_complete i j h = grind (arith, declaration_complete)
 
   -- A character begins after it.
   pub prolog_cut : (i j : ℕ) → IsCharBoundary src i → MayHaveXmlDecl src i j → IsCharBoundary src j
@@ -278,11 +274,9 @@ none_sound src limit most i before replies asked d more texts fine h inside =
     (λ here h. cc (ap (λ (x : Asks Dtd). x.1) h))
     (λ none h.
     let start : Dtd = record { state = state i before root 255; entities = []; replies = replies } in
-    let a : [] ≡ asked = ap (λ (x : Asks Dtd). x.0) h in
-    let e : start ≡ d = ok_same start d (ap (λ (x : Asks Dtd). x.1) h) in
     let P : Dtd → Type 0 = λ d. (dtd : Bool) × (nodes : Forest Item) × MayHaveDoctype src i d.state.at dtd nodes asked d.entities × Permits false dtd × (d.state ≡ state d.state.at (join before nodes) root 255) × IsValidState most d.state in
-    subst P e
-    (false, Nil, subst (λ (asked : List Asked). MayHaveDoctype src i i false Nil asked []) a (no_doctype i), λ h. h, rw join-nil refl, fine))
+    subst P (ok_same start d (ap (λ (x : Asks Dtd). x.1) h))
+    (false, Nil, subst (λ (asked : List Asked). MayHaveDoctype src i i false Nil asked []) (ap (λ (x : Asks Dtd). x.0) h) (no_doctype i), λ h. h, rw join-nil refl, fine))
 
 -- And where it has none nothing is read.
 none_complete : (src : List ℕ) (limit i j : ℕ) (dtd : Bool) (before nodes : Forest Item) (asked : List Asked) (es : List Entity) (more : List Reply) → MayHaveDoctype src i j dtd nodes asked es → Stops src j
@@ -290,8 +284,7 @@ none_complete : (src : List ℕ) (limit i j : ℕ) (dtd : Bool) (before nodes : 
     → whole.doctype limit false src (record { state = state i before root 255; entities = []; replies = replies_of asked ++ more })
     ≡ (asked, Ok (record { state = state j (join before nodes) root 255; entities = es; replies = more }))
 unfolding whole.doctype
-none_complete src limit i j dtd before nodes asked es more (doctype _ k _ items others _ _ is rest) stops none permits fine = absurd (false≢true (permits refl))
-none_complete src limit i j dtd before nodes asked es more (no_doctype _) stops none permits fine = rw (none, join-nil) refl
+none_complete src limit i j dtd before nodes asked es more h k p q r = grind (arith, join-nil)
 
 none_texts : (src : List ℕ) (i j : ℕ) (dtd : Bool) (nodes : Forest Item) (asked : List Asked) (es : List Entity) → MayHaveDoctype src i j dtd nodes asked es → Permits false dtd → AreTexts es
 none_texts src i j dtd nodes asked es h permits = grind arith

@@ -53,11 +53,9 @@ raw_sound src utf8 i x h =
     let c = chars_sound e src (v + 1) t utf8 (value_stop_le src v) read in
     let t1 : t.1 ≡ e = c.2 in
     let b = byte_sound (byte src v) src t.1 d last in
-    let same : byte src e ≡ byte src v = rw t1 at b.0 in
-    let l = literal_sound src v quote.0 c.0 same (leb-false _ _ some) in
-    let next : d.1 ≡ e + 1 = rw t1 at b.1 in
+    let l = literal_sound src v quote.0 c.0 (rw t1 at b.0) (leb-false _ _ some) in
     let x0 : ◌≡◌ {A = RawAttribute × ℕ} (record { start = i; name = n.0; name_end = n.1; value_start = q.1; value_end = t.1 }, d.1) x = ok_same _ _ h in
-    let l' : IsAttValue src v t.1 d.1 = subst (λ (m : ℕ). IsAttValue src v m d.1) (sym t1) (subst (λ (m : ℕ). IsAttValue src v e m) (sym next) l) in
+    let l' : IsAttValue src v t.1 d.1 = subst (λ (m : ℕ). IsAttValue src v m d.1) (sym t1) (subst (λ (m : ℕ). IsAttValue src v e m) (sym (rw t1 at b.1)) l) in
     subst (λ (y : RawAttribute × ℕ). RawStands src i y.1 y.0) x0
     (record { starts = refl; is_name = qname_sound src i n named; v = v; eq = (eq.0, ap (spaces_end src) eq.1); value_start = q1; literal = l' })))))))
 
@@ -65,19 +63,13 @@ raw_sound src utf8 i x h =
 pub raw_complete : (src : List ℕ) (i j : ℕ) (raw : RawAttribute) → RawStands src i j raw → attribute_at src i ≡ Ok (raw, j)
 unfolding attribute_at raw_value_at
 raw_complete src i j raw r =
-    let n = qname_complete src i raw.name raw.name_end r.is_name in
     let s = byte_complete 61 src (spaces_end src raw.name_end) r.eq.0 (λ z. omega arith) in
-    let v = r.eq.1 in
-    let q = quote_complete src r.v r.literal.0.0 in
     let e = literal_complete src r.v raw.value_end j r.literal in
     let more = lt-leb (length src) raw.value_end r.literal.0.2 in
     let c = chars_complete raw.value_end src (r.v + 1) r.literal.1 in
     let nz = quote_ascii (byte src r.v) r.literal.0.0 in
     let b = byte_complete (byte src r.v) src raw.value_end (literal_closes src r.v raw.value_end j r.literal) (λ z. omega arith) in
-    let next = r.literal.0.3 in
-    let start = r.value_start in
-    let i' = r.starts in
-    rw (n, s, ← v, q, e, more, c, b, next, ← start, ← i') refl
+    rw ((qname_complete src i raw.name raw.name_end r.is_name), s, ← r.eq.1, (quote_complete src r.v r.literal.0.0), e, more, c, b, r.literal.0.3, ← r.value_start, ← r.starts) refl
 
 -- It has a byte.
 raw_le : (src : List ℕ) (i j : ℕ) (raw : RawAttribute) → RawStands src i j raw → i < j
@@ -118,9 +110,7 @@ turn_sound src utf8 i x h =
     (λ inside h. chosen (eqb (byte src j) 47) _ _ _ h
     (λ slash h. bind_ok (byte_at 62 src (j + 1)) _ _ h (λ b greater h.
     let c = byte_sound 62 src (j + 1) b greater in
-    let next : b.1 ≡ j + 2 = omega (arith, c.1) in
-    let up_to : ℕ → TagItem × ℕ = λ m. (closed, m) in
-    let e : ◌≡◌ {A = TagItem × ℕ} (closed, j + 2) x = ap up_to (sym next) ∙ ok_same _ _ h in
+    let e : ◌≡◌ {A = TagItem × ℕ} (closed, j + 2) x = ap (λ m. (closed, m)) (sym (omega (arith, c.1))) ∙ ok_same _ _ h in
     subst (λ (y : TagItem × ℕ). TurnStands src i y.0 y.1) e (content.closed i (eqb-true _ _ slash) c.0)))
     (λ other h. chosen (eqb (byte src j) 62) _ _ _ h
     (λ greater e. subst (λ (y : TagItem × ℕ). TurnStands src i y.0 y.1) (ok_same _ _ e) (content.opened i (eqb-true _ _ greater)))
@@ -133,14 +123,7 @@ turn_sound src utf8 i x h =
 -- The end of a tag is read.
 pub end_complete : (src : List ℕ) (i : ℕ) (empty : Bool) (j : ℕ) → TagEnds src i empty j → tag_item_at src i ≡ Ok (cond empty closed opened, j)
 unfolding tag_item_at
-end_complete src i empty j (content.opened _ greater) =
-    let inside = lt-leb (length src) (spaces_end src i) (within src (spaces_end src i) (λ z. omega arith)) in
-    rw (inside, greater) refl
-end_complete src i empty j (content.closed _ slash greater) =
-    let inside = lt-leb (length src) (spaces_end src i) (within src (spaces_end src i) (λ z. omega arith)) in
-    let b = byte_complete 62 src (spaces_end src i + 1) greater (λ z. omega arith) in
-    let next : spaces_end src i + 1 + 1 ≡ spaces_end src i + 2 = omega arith in
-    rw (inside, slash, b, next) refl
+end_complete src i empty j h = grind (arith, within, byte_complete)
 
 -- One more attribute is read.
 pub more_complete : (src : List ℕ) (i j : ℕ) (raw : RawAttribute) → i < spaces_end src i → RawStands src (spaces_end src i) j raw → tag_item_at src i ≡ Ok (more raw, j)
@@ -154,12 +137,10 @@ more_complete src i j raw some r =
     let le'' = run_end_le is_space src (spaces_end src raw.name_end + 1) in
     let v' = r.eq.1 in
     let closes = r.literal.0.2 in
-    let inside = lt-leb (length src) (spaces_end src i) (omega arith) in
-    let slash = ne_eqb (byte src (spaces_end src i)) 47 first.0 in
     let greater = ne_eqb (byte src (spaces_end src i)) 62 first.1 in
     let apart = ne_eqb (spaces_end src i) i (λ z. omega arith) in
     let one = raw_complete src (spaces_end src i) j raw r in
-    rw (inside, slash, greater, apart, one) refl
+    rw ((lt-leb (length src) (spaces_end src i) (omega arith)), (ne_eqb (byte src (spaces_end src i)) 47 first.0), greater, apart, one) refl
 
 -- A quote stops a value.
 quote_stop : (b : ℕ) → (b ≡ 39) ⊎ (b ≡ 34) → IsStop b

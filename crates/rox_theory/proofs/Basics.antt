@@ -1,8 +1,8 @@
 -- How a reading that succeeded went, and the smallest steps.
-use Rattle.std.proofs.Common.{◌≡◌, ◌≢◌, ℕ, ◌+◌, ◌<◌, ◌≤◌, Bool, true, false, cond, eqb, ltb, leb, List, length, take, refl, sym, ap, ◌∙◌, arith, inl, inr}
+use Rattle.std.proofs.Common.{◌≡◌, ◌≢◌, ℕ, ◌+◌, ◌<◌, ◌≤◌, Bool, true, false, cond, List, length, take, refl, arith, inl, inr}
 use Rattle.std.specs.Prelude.{Result, Ok}
 use Rattle.std.proofs.lemmas.List.{get_or_past}
-use Rattle.std.proofs.lemmas.Bool.{eqb-true, leb-false, lt-leb, eq-eqb, ltb-false, le-ltb, cases_lt}
+use Rattle.std.proofs.lemmas.Bool.{le-ltb, cases_lt}
 use Rattle.std.specs.Str.{IsUtf8}
 use Rattle.rox_grammar.specs.declared.fault.Fault.{Fault}
 use Rattle.rox_grammar.specs.declared.fault.Expected.{Expected}
@@ -47,25 +47,17 @@ within src i h = elim (cases_lt i (length src)) as (λ s. i < length src) [ inl 
 -- A byte that is read is there.
 pub byte_sound : (b : ℕ) (src : List ℕ) (i : ℕ) (x : Unit {0} × ℕ) → byte_at b src i ≡ Ok x → (byte src i ≡ b) × (x.1 ≡ i + 1) × (i < length src)
 unfolding byte_at
-byte_sound b src i x h = chosen (leb (length src) i) _ _ _ h (λ out e. cc)
-    (λ inside h. chosen (eqb (byte src i) b) _ _ _ h
-    (λ holds e. (eqb-true _ _ holds, sym (ap (λ p. p.1) (ok_same _ _ e)), leb-false _ _ inside))
-    (λ fails e. cc))
+byte_sound b src i x h = grind arith
 
 -- A byte that is there is read.
 pub byte_complete : (b : ℕ) (src : List ℕ) (i : ℕ) → byte src i ≡ b → b ≢ 0 → byte_at b src i ≡ Ok (tt, i + 1)
 unfolding byte_at
-byte_complete b src i h nz =
-    let l = lt-leb (length src) i (within src i (λ z. nz (sym h ∙ z))) in
-    let e = eq-eqb _ _ h in
-    rw (l, e) refl
+byte_complete b src i h nz = grind (arith, within)
 
 -- A fixed text that is read is there.
 pub string_sound : (w : Expected) (src : List ℕ) (i : ℕ) (x : Unit {0} × ℕ) → string_at w src i ≡ Ok x → (stands (expected_text w) src i ≡ true) × (x.1 ≡ i + length (expected_text w))
 unfolding string_at
-string_sound w src i x h = chosen (stands (expected_text w) src i) _ _ _ h
-    (λ holds e. (holds, sym (ap (λ p. p.1) (ok_same _ _ e))))
-    (λ fails e. cc)
+string_sound w src i x h = grind arith
 
 -- A fixed text that is there is read.
 pub string_complete : (w : Expected) (src : List ℕ) (i : ℕ) → stands (expected_text w) src i ≡ true → string_at w src i ≡ Ok (tt, i + length (expected_text w))
@@ -75,12 +67,7 @@ string_complete w src i h = rw h refl
 -- What is read up to a place are Chars.
 pub chars_sound : (end : ℕ) (src : List ℕ) (i : ℕ) (x : List ℕ × ℕ) → IsUtf8 src → i ≤ end → chars_up_to end src i ≡ Ok x → AreChars src i end × (x.0 ≡ slice src i end) × (x.1 ≡ end)
 unfolding chars_up_to
-chars_sound end src i x utf8 from h = chosen (ltb (run_end is_char (take end src) i) end) _ _ _ h
-    (λ ill e. cc)
-    (λ fine e.
-    let le = ltb-false _ _ fine in
-    let ge = run_end_inside is_char src i end utf8 from in
-    (omega arith, sym (ap (λ p. p.0) (ok_same _ _ e)), sym (ap (λ p. p.1) (ok_same _ _ e))))
+chars_sound end src i x utf8 from h = grind (arith, run_end_inside)
 
 -- Chars up to a place are read.
 pub chars_complete : (end : ℕ) (src : List ℕ) (i : ℕ) → AreChars src i end → chars_up_to end src i ≡ Ok (slice src i end, end)
@@ -97,22 +84,13 @@ pub text_sound : (w : Expected) (src : List ℕ) (i : ℕ) (x : List ℕ × ℕ)
     → AreChars src i (mark_from (expected_text w) src i) × (stands (expected_text w) src (mark_from (expected_text w) src i) ≡ true)
     × (x.0 ≡ slice src i (mark_from (expected_text w) src i)) × (x.1 ≡ mark_from (expected_text w) src i + length (expected_text w))
 unfolding text_to
-text_sound w src i x utf8 h =
-    let e = mark_from (expected_text w) src i in
-    bind_ok (chars_up_to e src i) _ _ h (λ t is h. bind_ok (string_at w src t.1) _ _ h (λ m ends h.
-    let c = chars_sound e src i t utf8 (mark_from_le (expected_text w) src i) is in
-    let s = string_sound w src t.1 m ends in
-    let at_end : t.1 ≡ e = c.2 in
-    (c.0, rw at_end at s.0, sym (ap (λ p. p.0) (ok_same _ _ h)) ∙ c.1, sym (ap (λ p. p.1) (ok_same _ _ h)) ∙ rw at_end at s.1)))
+text_sound w src i x utf8 h = grind (arith, chars_sound, mark_from_le, string_sound)
 
 -- Chars up to a mark, and the mark, that stand there are read.
 pub text_complete : (w : Expected) (src : List ℕ) (i e : ℕ) → e ≡ mark_from (expected_text w) src i → AreChars src i e → stands (expected_text w) src e ≡ true
     → text_to w src i ≡ Ok (slice src i e, e + length (expected_text w))
 unfolding text_to
-text_complete w src i e is chars stands =
-    let c = chars_complete e src i chars in
-    let s = string_complete w src e stands in
-    rw (← is, c, s) refl
+text_complete w src i e is chars stands = grind (arith, chars_complete, string_complete)
 
 -- A run goes forwards.
 pub run_end_le : (p : ℕ → Bool) (src : List ℕ) (i : ℕ) → i ≤ run_end p src i

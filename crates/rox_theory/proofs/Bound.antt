@@ -7,16 +7,15 @@ use Rattle.std.specs.Prelude.{◌≡◌, ◌==◌, ℕ, zero, suc, ◌+◌, ◌*
 use Rattle.std.specs.List.{list_any}
 use Rattle.rox_grammar.specs.Forest.{Forest, Nil, join}
 use Rattle.rox_grammar.specs.Written.{Item, Text, Attribute, Tag, leaf, merge}
-use Rattle.rox_grammar.specs.Names.{byte, slice, spaces_end}
+use Rattle.rox_grammar.specs.Names.{byte, slice, spaces_end, IsName}
 use Rattle.rox_grammar.specs.References.{entity_reference}
 use Rattle.rox_grammar.specs.Content.{Inclusion, line_ends, literals, is_verbatim, value_bytes, last_part, then_entity, Value, value_ends, line_end, white, other, a_character, an_entity, Attributes, no_more, one_more, attribute, IsTag, IsElement, empty, nest, Content, ends, run, cdata, misc, node, start_tag}
 use Rattle.rox_grammar.specs.RunParts.{Parts}
 use Rattle.rox_grammar.specs.Entities.{Entity, included_in_main, most_deep}
 use Rattle.rox_grammar.specs.Chars.{is_name_char, is_space}
-use Rattle.rox_grammar.specs.Names.{IsName}
 use Rattle.rox_grammar.specs.Doctype.{Asked, IsQuoted, IsExternalID, system, public, MayHaveNotation, IsDefinition, internal, external, IsKind, entity_begins, IsEntityDeclaration, entity_declaration, Subset, no_more as no_item, space as subset_space, an_item as subset_item, skipped_declaration, an_entity as an_entity_declared, MayHaveExternalID, external_id, no_external_id, BeginsDoctype, doctype_begins, IsDoctype}
 use Rattle.rox_grammar.specs.Document.{Misc, no_misc, space, an_item, ParseOf}
-use Rattle.rox_theory.specs.ParseParts.{MayHaveDoctype, doctype}
+use Rattle.rox_theory.specs.ParseParts.{MayHaveDoctype}
 use Rattle.rox_grammar.specs.Expansion.{longest}
 use Rattle.rox_theory.specs.ItemSize.{most_bytes, bytes_in, IsBounded}
 use Rattle.rox_theory.proofs.Productions.{reference_parts}
@@ -26,7 +25,6 @@ use Rattle.rox_theory.proofs.Weights.{piece_most, section_most, misc_most, count
 use Rattle.rox_theory.proofs.Measures.{Measure, most_of, fewer, by_bytes, by_count, count_in}
 use Rattle.rox_theory.proofs.DoctypeParts.{passed_end}
 use Rattle.rox_theory.proofs.ParseParts.{parts}
-use Rattle.rox_grammar.specs.Content.{attribute}
 use Rattle.rox_theory.proofs.Basics.{run_end_le}
 use Rattle.rox_theory.proofs.LiteralLemmas.{from_le}
 
@@ -169,11 +167,8 @@ passed_onward src i = let h = from_le (λ c. c == 62) src i in omega (arith, h)
 
 begins_onward : (src : List ℕ) (i s : ℕ) → BeginsDoctype src i s → i ≤ s
 begins_onward src i s (doctype_begins n m x _ before name may) =
-    let q = name_onward src n m name in
-    let a = run_end_le is_space src m in
     let y = may_onward (spaces_end src m) x may in
-    let b = run_end_le is_space src x in
-    omega (arith, before.0, q, a, y, b)
+    omega (arith, before.0, (name_onward src n m name), (run_end_le is_space src m), y, (run_end_le is_space src x))
   where
     may_onward : (i j : ℕ) → MayHaveExternalID src i j → i ≤ j
     may_onward i j (external_id _ _ request id) = external_onward src i j request id
@@ -187,15 +182,13 @@ module _ (of : Forest Item → ℕ) (is_measure : Measure of) where
   main_most es name b items c h =
       let x = few_opened es name b c items h in
       let y = (counts_weigh of is_measure es most_deep).content name 0 items x.0 x.1 in
-      let z = times_more x.0 256 (longest es) x.2 in
-      omega (arith, y, z)
+      omega (arith, y, (times_more x.0 256 (longest es) x.2))
 
   main_value_most : (es : List Entity) (name : List ℕ) (b : ℕ) (v : List ℕ) (c : ℕ) → (included_in_main es).value name b v c → length v ≤ 256 * longest es
   main_value_most es name b v c h =
       let x = few_opened_in_value es name b c v h in
       let y = (counts_weigh of is_measure es most_deep).value name 0 v x.0 x.1 in
-      let z = times_more x.0 256 (longest es) x.2 in
-      omega (arith, y, z)
+      omega (arith, y, (times_more x.0 256 (longest es) x.2))
 
   -- An element of the main text.
   element_bounded : (es : List Entity) (src : List ℕ) (i j b c : ℕ) (one : Forest Item) → IsElement true (included_in_main es) src i j b c one
@@ -212,19 +205,13 @@ module _ (of : Forest Item → ℕ) (is_measure : Measure of) where
   all_misc src i j items (no_misc _) = let h = is_measure.none in omega (arith, h)
   all_misc src i j items (space _ _ _ here rest) = let h = all_misc src (i + 1) j items rest in omega (arith, h)
   all_misc src i l items (an_item _ j _ item more is rest) =
-      let x = misc_most of is_measure src i j item is in
-      let h = all_misc src j l more rest in
-      let f = is_measure.joined (leaf item) more in
-      omega (arith, x, h, f)
+      omega (arith, (misc_most of is_measure src i j item is), (all_misc src j l more rest), (is_measure.joined (leaf item) more))
 
   all_subset : (src : List ℕ) (i j : ℕ) (items : Forest Item) (asked : List Asked) (es : List Entity) → Subset src i j items asked es → of items + i ≤ j
   all_subset src i j items asked es (no_item _) = let h = is_measure.none in omega (arith, h)
   all_subset src i j items asked es (subset_space _ _ _ _ _ here rest) = let h = all_subset src (i + 1) j items asked es rest in omega (arith, h)
   all_subset src i l items asked es (subset_item _ j _ item more _ _ is rest) =
-      let x = misc_most of is_measure src i j item is in
-      let h = all_subset src j l more asked es rest in
-      let f = is_measure.joined (leaf item) more in
-      omega (arith, x, h, f)
+      omega (arith, (misc_most of is_measure src i j item is), (all_subset src j l more asked es rest), (is_measure.joined (leaf item) more))
   all_subset src i l items asked es (skipped_declaration _ _ _ _ _ opens closes rest) = grind (arith, passed_onward src i, all_subset src (passed_end src i) l items asked es rest)
   all_subset src i l items asked es (an_entity_declared _ j _ _ first more one others is rest) = grind (arith, declaration_onward src i j first one is, all_subset src j l items more others rest)
 

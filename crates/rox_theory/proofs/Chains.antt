@@ -86,6 +86,4 @@ module _ (limit : ℕ) (es : List Entity) (src : List ℕ) (steps : StepsAgree (
   drive_complete zero s u (goes _ t _ inner takes rest) fine enough = absurd (omega (arith, steps.moves s t takes))
   drive_complete (suc n) s u (goes _ t _ inner takes rest) fine enough =
       let m = steps.moves s t takes in
-      let below = lt-ltb s.at (length src) m.0 in
-      let one = steps.complete s t takes (drives_back t u rest fine) in
-      rw (inner, below, one) (drive_complete n t u rest fine (omega (arith, m.1)))
+      rw (inner, (lt-ltb s.at (length src) m.0), (steps.complete s t takes (drives_back t u rest fine))) (drive_complete n t u rest fine (omega (arith, m.1)))

@@ -2,11 +2,11 @@
 use Rattle.std.proofs.Common.{◌≡◌, ℕ, zero, suc, ◌+◌, ◌-◌, ◌<◌, ◌≤◌, Bool, true, ◌||◌, ◌&&◌, leb, ltb, List, [], ◌∷◌, length, take, drop, refl, sym, ap, ◌∙◌, subst, arith, inl, inr, ◌⊎◌}
 use Rattle.std.specs.List.{list_all, list_any}
 use Rattle.std.specs.Str.{chars, IsUtf8, IsCharBoundary}
-use Rattle.std.proofs.lemmas.Bool.{and_parts, or_cases, leb-true, ltb-true}
+use Rattle.std.proofs.lemmas.Bool.{and_parts, or_cases, leb-true}
 use Rattle.std.proofs.lemmas.Bool.Decides.{nat_tests}
 use Rattle.std.proofs.lemmas.List.{drop-take}
 use Rattle.std.proofs.lemmas.Str.{encodes-chars}
-use Rattle.rox_grammar.specs.Chars.{is_between, is_char, name_start_ranges, name_more_ranges, is_name_start, is_name_char}
+use Rattle.rox_grammar.specs.Chars.{is_between, is_char, is_name_start, is_name_char}
 use Rattle.rox_grammar.specs.Runs.{run_end}
 use Rattle.rox_grammar.proofs.Passing.{all_passing}
 use Rattle.rox_grammar.specs.Names.{byte, slice}
@@ -25,8 +25,7 @@ use Rattle.rox_theory.proofs.CharTexts.{IsCharText, no_text, texts_joined, byte_
 pub text_chars : (src : List ℕ) (i j : ℕ) → i ≤ j → j ≤ length src → IsCharText (slice src i j) → AreChars src i j
 unfolding run_end
 text_chars src i j le inside text =
-    let e : i + (j - i) ≡ j = omega arith in
-    let front : drop i (take j src) ≡ slice src i j = ap (λ (m : ℕ). drop i (take m src)) (sym e) ∙ drop-take i (j - i) src in
+    let front : drop i (take j src) ≡ slice src i j = ap (λ (m : ℕ). drop i (take m src)) (sym (omega arith)) ∙ drop-take i (j - i) src in
     let long = range_length src i j le inside in
     let all = all_passing is_char (chars (slice src i j)) text.all in
     let spelled = ap length (encodes-chars (slice src i j) text.utf8) in
@@ -77,24 +76,14 @@ in_ranges c (r ∷ rs) all h =
     let fine = and_parts (leb 32 r.0) (ltb r.1 0xFFFE || ltb 0xFFFF r.0) both.0 in
     let from = leb-true 32 r.0 fine.0 in
     elim (or_cases (is_between r.0 r.1 c) (list_any (λ r. is_between r.0 r.1 c) rs) h) as (λ s. is_char c ≡ true) [
-      | inl here ↦ (
-          let ends = and_parts (leb r.0 c) (leb c r.1) here in
-          let low = leb-true r.0 c ends.0 in
-          let high = leb-true c r.1 ends.1 in
-          elim (or_cases (ltb r.1 0xFFFE) (ltb 0xFFFF r.0) fine.1) as (λ s. is_char c ≡ true) [
-            | inl below ↦ allowed c (omega arith) (inl (let b = ltb-true r.1 0xFFFE below in omega arith))
-            | inr above ↦ allowed c (omega arith) (inr (let a = ltb-true 0xFFFF r.0 above in omega arith))
-          ])
+      | inl here ↦ grind arith
       | inr later ↦ in_ranges c rs both.1 later
     ]
 
 -- Each character of a name is a Char.
 pub name_char : (c : ℕ) → is_name_char c ≡ true → is_char c ≡ true
 unfolding is_name_char is_name_start fine_range
-name_char c h = elim (or_cases (is_name_start c) (list_any (λ r. is_between r.0 r.1 c) name_more_ranges) h) as (λ s. is_char c ≡ true) [
-  | inl first ↦ in_ranges c name_start_ranges refl first
-  | inr more ↦ in_ranges c name_more_ranges refl more
-]
+name_char c h = grind (arith, nat_tests)
 
 -- ---- references
 
@@ -140,25 +129,20 @@ pub character_text : (src : List ℕ) (i c j : ℕ) → IsUtf8 src → IsCharact
 character_text src i c j utf8 (decimal opens m) =
     let bytes = hash_bytes src i opens in let amp = bytes.0 in let hash = bytes.1 in
     let e = (number_parts m).e in
-    let first = known src i 38 amp (omega arith) (omega arith) in
     let second = known src (i + 1) 35 hash (omega arith) (omega arith) in
-    let two : i + 1 + 1 ≡ i + 2 = omega arith in
-    let second' : IsCharText (slice src (i + 1) (i + 2)) = subst (λ (k : ℕ). IsCharText (slice src (i + 1) k)) two second.0 in
+    let second' : IsCharText (slice src (i + 1) (i + 2)) = subst (λ (k : ℕ). IsCharText (slice src (i + 1) k)) (omega arith) second.0 in
     let rest = number_text 10 is_digit src (i + 2) c j digit_range m in
-    let front = stretches_joined src i (i + 1) (i + 2) (omega arith) (omega arith) (omega (arith, second.1)) first.0 second' in
+    let front = stretches_joined src i (i + 1) (i + 2) (omega arith) (omega arith) (omega (arith, second.1)) (known src i 38 amp (omega arith) (omega arith)).0 second' in
     (stretches_joined src i (i + 2) j (omega arith) rest.1 rest.2 front rest.0, cut_behind src e 59 j utf8 (number_parts m).closes (omega arith) (omega arith) (number_parts m).next)
 character_text src i c j utf8 (hexadecimal opens m) =
     let bytes = hex_bytes src i opens in let amp = bytes.0 in let hash = bytes.1 in let hex = bytes.2 in
     let e = (number_parts m).e in
-    let first = known src i 38 amp (omega arith) (omega arith) in
     let second = known src (i + 1) 35 hash (omega arith) (omega arith) in
     let third = known src (i + 2) 120 hex (omega arith) (omega arith) in
-    let two : i + 1 + 1 ≡ i + 2 = omega arith in
-    let three : i + 2 + 1 ≡ i + 3 = omega arith in
-    let second' : IsCharText (slice src (i + 1) (i + 2)) = subst (λ (k : ℕ). IsCharText (slice src (i + 1) k)) two second.0 in
-    let third' : IsCharText (slice src (i + 2) (i + 3)) = subst (λ (k : ℕ). IsCharText (slice src (i + 2) k)) three third.0 in
+    let second' : IsCharText (slice src (i + 1) (i + 2)) = subst (λ (k : ℕ). IsCharText (slice src (i + 1) k)) (omega arith) second.0 in
+    let third' : IsCharText (slice src (i + 2) (i + 3)) = subst (λ (k : ℕ). IsCharText (slice src (i + 2) k)) (omega arith) third.0 in
     let rest = number_text 16 is_hex_digit src (i + 3) c j hex_range m in
-    let front = stretches_joined src i (i + 1) (i + 2) (omega arith) (omega arith) (omega (arith, second.1)) first.0 second' in
+    let front = stretches_joined src i (i + 1) (i + 2) (omega arith) (omega arith) (omega (arith, second.1)) (known src i 38 amp (omega arith) (omega arith)).0 second' in
     let front' = stretches_joined src i (i + 2) (i + 3) (omega arith) (omega arith) (omega (arith, third.1)) front third' in
     (stretches_joined src i (i + 3) j (omega arith) rest.1 rest.2 front' rest.0, cut_behind src e 59 j utf8 (number_parts m).closes (omega arith) (omega arith) (number_parts m).next)
 character_text src i c j utf8 (named n r is) = reference_text src i n j utf8 r

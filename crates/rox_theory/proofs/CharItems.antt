@@ -18,7 +18,7 @@ use Rattle.rox_grammar.proofs.TagParts.{tag_parts}
 use Rattle.rox_grammar.specs.Entities.{Entity, Includes, included_in_main, most_deep}
 use Rattle.rox_grammar.specs.Doctype.{Asked, Subset, no_more as no_item, space as subset_space, an_item as subset_item, skipped_declaration, an_entity as an_entity_declared, IsDoctype}
 use Rattle.rox_grammar.specs.Document.{Misc, no_misc, space, an_item, ParseOf}
-use Rattle.rox_theory.specs.ParseParts.{MayHaveDoctype, doctype}
+use Rattle.rox_theory.specs.ParseParts.{MayHaveDoctype}
 use Rattle.rox_theory.specs.Openers.{AreTexts}
 use Rattle.rox_theory.specs.CharItems.{WrittenChars, TagChars, ItemChars, ItemsChars}
 use Rattle.rox_theory.proofs.Productions.{ncname_parts, comment_parts, pi_parts, cdata_parts, char_data_parts}
@@ -30,7 +30,6 @@ use Rattle.rox_theory.proofs.CharCuts.{name_char}
 use Rattle.rox_theory.proofs.CharSigns.{part_char, no_signs, text_front, items_joined, OpensChars, value_chars, parts_items}
 use Rattle.rox_theory.proofs.DoctypeAgreement.{texts_agree}
 use Rattle.rox_theory.proofs.ParseParts.{parts}
-use Rattle.rox_grammar.specs.Content.{attribute}
 
 -- ---- names
 
@@ -100,8 +99,7 @@ if_some v h = grind arith
 instruction_text : (src : List ℕ) (i n e j : ℕ) → IsUtf8 src → IsPI src i n e j → IsCharText (slice src (i + 2) n) × IfSome (none_if_empty (slice src (spaces_end src n) e)) IsCharText
 instruction_text src i n e j utf8 is =
     let first = cut_behind src (i + 1) 63 (i + 2) utf8 (stands_reads (word_text word.PIStart) src i 1 (pi_parts is).opens (omega arith)) (omega arith) (omega arith) (omega arith) in
-    let z : e + 0 ≡ e = omega arith in
-    let last = cut_at src e 63 (sym (ap (byte src) z) ∙ stands_reads (word_text word.PIEnd) src e 0 (pi_parts is).closes (omega arith)) (omega arith) (omega arith) in
+    let last = cut_at src e 63 (sym (ap (byte src) (omega arith)) ∙ stands_reads (word_text word.PIEnd) src e 0 (pi_parts is).closes (omega arith)) (omega arith) (omega arith) in
     let (target, behind) = subst (λ (m : ℕ). IsCharText (slice src (i + 2) m) × IsCharBoundary src m) (sym (pi_parts is).target.longest)
     (run_of_chars is_name_char src (i + 2) utf8 first name_char, run_cut is_name_char src (i + 2) utf8 first) in
     (target, if_some _ (chars_between src (spaces_end src n) e utf8 (run_cut is_space src n utf8 behind) last (pi_parts is).chars))

@@ -93,11 +93,10 @@ chars_front [] ss s h rest = rest
 chars_front (c ∷ cs) ss s h rest =
     let s' = and_parts (scalar c) (scalars cs) s in
     let h' = and_parts (is_char c) (list_all is_char cs) h in
-    let split = literals_append (encode_utf8 c) (encodes cs) ss in
     let more = chars_front cs ss s'.1 h'.1 rest in
     let all = literals (encodes cs) ++ ss in
     let feed : IsCharText (10 ∷ line_ends all) = texts_joined (10 ∷ []) (line_ends all) (byte_text 10 (omega arith) refl) more in
-    subst SignChars (sym split)
+    subst SignChars (sym (literals_append (encode_utf8 c) (encodes cs) ss))
     (elim (cases_eq c 13) as (λ s. SignChars (literals (encode_utf8 c) ++ all)) [
       | inl cr ↦ grind (arith, encode_ascii)
       | inr no_cr ↦ (
@@ -182,10 +181,9 @@ module _ (src : List ℕ) (utf8 : IsUtf8 src) (start stop : ℕ) (first : IsChar
   value_front main O oc i b c v (other _ _ _ w more x₁ x₂ x₃ x₄ x₅ rest) k from on front = grind (arith, value_front main O oc (i + 1) b c w rest k from (omega arith) front, grown, append_assoc)
   value_front main O oc i b c v (a_character _ n x _ _ w is within allowed rest) k from on front =
       let opens = character_opens src i x n is in
-      let amp = opens.0 in
       let r = referenced src i x n utf8 is in
       let later = value_front main O oc n b c w rest n (omega (arith, opens.1)) (omega arith) r.1 in
-      texts_joined (slice src k i) (value_bytes main x ++ w) (stretch k i from on (omega (arith, opens.1)) front (cut_at src i 38 amp (omega arith) (omega arith)))
+      texts_joined (slice src k i) (value_bytes main x ++ w) (stretch k i from on (omega (arith, opens.1)) front (cut_at src i 38 opens.0 (omega arith) (omega arith)))
       (texts_joined (value_bytes main x) w (given main (char_text x r.0.0 r.0.1)) (subst (λ (v : List ℕ). IsCharText (v ++ w)) (slice_nil src n) later))
     where
       given : (main : Bool) → IsCharText (encode_utf8 x) → IsCharText (value_bytes main x)
@@ -193,10 +191,9 @@ module _ (src : List ℕ) (utf8 : IsUtf8 src) (start stop : ℕ) (first : IsChar
       given false h = cond_both (x == 9 || (x == 10 || x == 13)) (32 ∷ []) (encode_utf8 x) (λ (v : List ℕ). IsCharText v) (λ space. byte_text 32 (omega arith) refl) (λ none. h)
   value_front main O oc i b d v (an_entity _ m _ c _ _ u w (entity_reference n is name) within opened rest) k from on front =
       let opens = reference_opens src i n m is in
-      let amp = (reference_parts is).opens in
       let next = cut_behind src n 59 m utf8 (reference_parts is).closes (omega arith) (omega arith) (reference_parts is).next in
       let later = value_front main O oc m c d w rest m (omega (arith, opens.2)) (omega arith) next in
-      texts_joined (slice src k i) (u ++ w) (stretch k i from on (omega (arith, opens.2)) front (cut_at src i 38 amp (omega arith) (omega arith)))
+      texts_joined (slice src k i) (u ++ w) (stretch k i from on (omega (arith, opens.2)) front (cut_at src i 38 ((reference_parts is).opens) (omega arith) (omega arith)))
       (texts_joined u w (oc.value _ b u c opened) (subst (λ (v : List ℕ). IsCharText (v ++ w)) (slice_nil src m) later))
 
   -- From where a character begins.
@@ -213,9 +210,8 @@ module _ (src : List ℕ) (utf8 : IsUtf8 src) (start stop : ℕ) (first : IsChar
   pub parts_items : (main : Bool) (O : Inclusion) → OpensChars O → (from i b c : ℕ) (items : Forest Item) → Parts main O src from stop i b c items → start ≤ i → IsCharBoundary src i → ItemsChars items
   parts_items main O oc from i b c items (last_part _ _ ss part) on cut = piece_items from stop _ ss (part_chars main stop i ss part last (omega arith) on cut)
   parts_items main O oc from i b d items (then_entity _ p j _ c _ _ ss front more part (entity_reference n reference name) opened rest) on cut =
-      let h = part_bytes main src p i ss part in
       let k = reference_onward src p n j reference in
       let l = parts_within main O from j c d more rest in
       let amp = cut_at src p 38 (reference_parts reference).opens (omega arith) (omega arith) in
       let next = cut_behind src n 59 j utf8 (reference_parts reference).closes (omega arith) (omega arith) (reference_parts reference).next in
-      grind (arith, parts_items main O oc from j c d more rest (omega (arith, h, k)) next, items_joined, part_chars)
+      grind (arith, parts_items main O oc from j c d more rest (omega (arith, (part_bytes main src p i ss part), k)) next, items_joined, part_chars)

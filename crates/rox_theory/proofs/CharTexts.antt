@@ -64,8 +64,7 @@ pub chars_between : (src : List ℕ) (i j : ℕ) → IsUtf8 src → IsCharBounda
 unfolding run_end
 chars_between src i j utf8 from to h =
     let le : i ≤ j = omega arith in
-    let e : i + (j - i) ≡ j = omega arith in
-    let front : drop i (take j src) ≡ slice src i j = ap (λ (m : ℕ). drop i (take m src)) (sym e) ∙ drop-take i (j - i) src in
+    let front : drop i (take j src) ≡ slice src i j = ap (λ (m : ℕ). drop i (take m src)) (sym (omega arith)) ∙ drop-take i (j - i) src in
     let text = IsUtf8-between src i j utf8 le from to in
     let long = range_length src i j le to.0 in
     let h' : i + passing is_char (chars (slice src i j)) ≡ j = rw front at h in

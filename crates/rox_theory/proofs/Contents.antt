@@ -60,10 +60,7 @@ module _ (context : Context) (O : Inclusion) (src : List ℕ) (steps : StepsAgre
   drive_text_complete zero s u (goes _ t _ takes rest) fine enough = absurd (omega (arith, steps.moves s t takes))
   drive_text_complete (suc n) s u (goes _ t _ takes rest) fine enough =
       let m = steps.moves s t takes in
-      let below = lt-ltb s.at (length src) m.0 in
-      let next = chain_back t u rest fine in
-      let one = steps.complete s t takes next in
-      rw (below, one) (drive_text_complete n t u rest fine (omega (arith, m.1)))
+      rw ((lt-ltb s.at (length src) m.0), (steps.complete s t takes (chain_back t u rest fine))) (drive_text_complete n t u rest fine (omega (arith, m.1)))
 
 -- How a replacement text is read.
 abbrev pub within : ℕ → List Entity → ℕ → ℕ → Context
@@ -71,10 +68,7 @@ within limit es d open_around = record { limit = limit; values = values_of es d 
 
 contents_none : (limit : ℕ) (es : List Entity) (main : Bool) → AgreesContent es limit (Includes es zero main) (opener limit es zero main)
 unfolding opener
-contents_none limit es main = record {
-  sound = λ most name t after s u limits found fine h. cc h;
-  complete = λ name after c items s h fine. absurd h;
-}
+contents_none limit es main = grind arith
 
 module _ (limit : ℕ) (es : List Entity) (texts : AreTexts es) (d : ℕ) (steps : (open_around : ℕ) (src : List ℕ) → IsUtf8 src → StepsAgree (within limit es d open_around) (Includes es d false) src) (main : Bool) where
   content_sound : (most : ℕ) (name : List ℕ) (t : Replacement) (after : ℕ) (s u : State) → limit ≤ most → text_of es name ≡ Some t → IsValidState most s → opener limit es (suc d) main t after s ≡ Ok u
@@ -112,8 +106,7 @@ module _ (limit : ℕ) (es : List Entity) (texts : AreTexts es) (d : ℕ) (steps
       let chain = text_complete (Includes es d false) src t.start r l s.done items s.stack content in
       let fine' = fine_there limit (state after (join s.done items) s.stack c) last refl refl fine in
       let read = drive_text_complete context (Includes es d false) src (steps (depth_of s.stack) src text.0) (length src) (state t.start s.done s.stack r) last chain fine' (omega arith) in
-      let openings_left = spent.1 in
-      (t, found, rw (spent.0, read, openings_left) refl)
+      (t, found, rw (spent.0, read, spent.1) refl)
 
   contents_one_more : AgreesContent es limit (Includes es (suc d) main) (opener limit es (suc d) main)
   contents_one_more = record { sound = content_sound; complete = content_complete }

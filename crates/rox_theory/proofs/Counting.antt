@@ -58,8 +58,7 @@ pub value_counted_once : (es : List Entity) → AreTexts es → (d : ℕ) (name 
 value_counted_once es texts d name b c e v w h k =
     let x = (counts_agree es texts d).complete name 0 b c v h in
     let y = (counts_agree es texts d).complete name 0 b e w k in
-    let same : y.0 ≡ x.0 = same_text y.0 x.0 (sym y.1 ∙ x.1) in
-    let read = subst (λ (t : Replacement). counter es d t 0 b ≡ Ok (w, e)) same y.2 in
+    let read = subst (λ (t : Replacement). counter es d t 0 b ≡ Ok (w, e)) (same_text y.0 x.0 (sym y.1 ∙ x.1)) y.2 in
     let one = ok_one (v, c) (w, e) (counter es d x.0 0 b) x.2 read in
     (ap (λ (p : List ℕ × ℕ). p.0) one, ap (λ (p : List ℕ × ℕ). p.1) one)
 

@@ -66,9 +66,8 @@ each_named (e ∷ es) each name t h =
 module _ (src : List ℕ) (utf8 : IsUtf8 src) where
   quoted_text : (i e j : ℕ) → IsQuoted src i e j → IsText (record { source = take e src; start = i + 1 })
   quoted_text i e j q =
-      let closes = quoted_closes src i e j q in
       let le = quoted_le src i e j q in
-      let cut = cut_at src e (byte src i) closes (omega arith) (omega arith) in
+      let cut = cut_at src e (byte src i) (quoted_closes src i e j q) (omega arith) (omega arith) in
       let front = IsUtf8-take src e utf8 cut in
       let long : length (take e src) ≡ e = length-take-le e src (omega (arith, q.2)) in
       let same : byte (take e src) i ≡ byte src i = get_or-take e src i 0 (omega (arith, le.0)) in

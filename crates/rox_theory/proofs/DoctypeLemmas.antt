@@ -2,18 +2,18 @@
 use Rattle.std.proofs.Common.{◌≡◌, ℕ, ◌+◌, ◌-◌, ◌<◌, ◌≤◌, ◌⊎◌, ◌==◌, ◌||◌, Bool, true, false, leb, List, length, take, refl, sym, ap, ◌∙◌, subst, arith, inl, inr}
 use Rattle.std.specs.Prelude.{Ok, Some, None}
 use Rattle.std.specs.Str.{IsUtf8, IsCharBoundary}
-use Rattle.std.proofs.lemmas.Bool.{cases_lt, leb-true, leb-false, lt-leb, eqb-true, eqb-false, eq-eqb, ne_eqb, or_left, or_right, or_parts, or_from, false_from_ne_true}
+use Rattle.std.proofs.lemmas.Bool.{cases_lt, lt-leb, eqb-true, eqb-false, eq-eqb, ne_eqb, or_left, or_right, or_parts, or_from, false_from_ne_true}
 use Rattle.rox_grammar.specs.declared.fault.Word.{Word}
 use Rattle.rox_grammar.specs.declared.fault.Word.TheVariants as word
 use Rattle.rox_grammar.specs.FixedTexts.{word_text, at}
-use Rattle.rox_grammar.specs.Chars.{is_space, is_name_start, is_name_char}
+use Rattle.rox_grammar.specs.Chars.{is_space, is_name_char}
 use Rattle.rox_grammar.specs.Search.{byte_from}
 use Rattle.rox_grammar.specs.Names.{byte, slice, spaces_end, IsName}
 use Rattle.rox_grammar.specs.Entities.{Replacement}
 use Rattle.rox_grammar.specs.Doctype.{Request, IsQuoted, IsSpace, IsExternalID, system, public, MayHaveNotation, notation, no_notation, of_parameter, IsKind, BeginsEntity, entity_begins, MayHaveExternalID, external_id, no_external_id, BeginsDoctype, doctype_begins}
 use Rattle.rox_grammar.specs.Doctype as grammar
 use Rattle.rox_grammar.proofs.AtPlace.{run_at_end}
-use Rattle.rox_reading.specs.Lexical.{byte_at, space_at, quote_at, name_at}
+use Rattle.rox_reading.specs.Lexical.{space_at, name_at}
 use Rattle.rox_reading.specs.Doctype.{quoted_at, system_at, public_at, external_id_at, name_or_end_at, notation_at, Definition, inner, outer, definition_at, EntityHead, kind_at, entity_head_at, external_id_if, doctype_head_at}
 use Rattle.rox_reading.proofs.Stretches.{range_length}
 use Rattle.rox_theory.proofs.Basics.{ok_same, bind_ok, chosen, within, byte_sound, byte_complete, run_end_le}
@@ -30,23 +30,15 @@ use Rattle.rox_theory.proofs.DoctypeParts.{BeginsParts, begins_parts, CutsNotati
 -- White space that is read is there.
 pub space_sound : (src : List ℕ) (i : ℕ) (x : Unit {0} × ℕ) → space_at src i ≡ Ok x → IsSpace src i x.1
 unfolding space_at
-space_sound src i x h =
-    chosen (leb (length src) i) _ _ _ h (λ out e. cc) (λ inside h. chosen (is_space (byte src i)) _ _ _ h
-    (λ is e.
-    let next : spaces_end src i ≡ x.1 = ap (λ p. p.1) (ok_same _ _ e) in
-    subst (IsSpace src i) next (space_some src i (leb-false _ _ inside) is, refl))
-    (λ other e. cc))
+space_sound src i x h = grind (arith, space_some)
 
 -- And what is there is read.
 pub space_complete : (src : List ℕ) (i j : ℕ) → IsUtf8 src → IsCharBoundary src i → IsSpace src i j → space_at src i ≡ Ok (tt, j)
 unfolding space_at
 space_complete src i j utf8 cut s =
-    let all = s.1 in
-    let some : i < spaces_end src i = omega (arith, s.0) in
     let inside : i < length src = elim (cases_lt i (length src)) as (λ s. i < length src) [ inl l ↦ l | inr past ↦ absurd (omega (arith, run_at_end is_space src i past)) ] in
-    let k = lt-leb (length src) i inside in
-    let is : is_space (byte src i) ≡ true = begins_byte is_space (λ c h. omega (arith, space_ascii c h)) src i utf8 cut (some_run is_space src i some) in
-    rw (k, is, ← all) refl
+    let is : is_space (byte src i) ≡ true = begins_byte is_space (λ c h. omega (arith, space_ascii c h)) src i utf8 cut (some_run is_space src i (omega (arith, s.0))) in
+    rw ((lt-leb (length src) i inside), is, ← s.1) refl
 
 -- A character begins after it.
 pub space_cut : (src : List ℕ) (i j : ℕ) → IsUtf8 src → IsCharBoundary src i → IsSpace src i j → IsCharBoundary src j
@@ -61,16 +53,7 @@ quoted_end src i = byte_from (λ c. c == byte src i) src (i + 1)
 -- What is read is there.
 pub quoted_sound : (src : List ℕ) (i : ℕ) (x : List ℕ × ℕ) → quoted_at src i ≡ Ok x → IsQuoted src i (quoted_end src i) x.1 × (x.0 ≡ slice src (i + 1) (quoted_end src i))
 unfolding quoted_at
-quoted_sound src i x h =
-    bind_ok (quote_at src i) _ _ h (λ q quoted h.
-    let quote = quote_sound src i q quoted in
-    let q0 : q.0 ≡ byte src i = quote.1 in
-    let q1 : q.1 ≡ i + 1 = quote.2 in
-    let h' = rw (q0, q1) at h in
-    bind_ok (byte_at (byte src i) src (quoted_end src i)) _ _ h' (λ b closes h.
-    let c = byte_sound (byte src i) src (quoted_end src i) b closes in
-    let next : b.1 ≡ x.1 = ap (λ p. p.1) (ok_same _ _ h) in
-    ((quote.0, refl, c.2, sym next ∙ c.1), sym (ap (λ p. p.0) (ok_same _ _ h)))))
+quoted_sound src i x h = grind (arith, quote_sound, byte_sound)
 
 -- It ends at the quote that it begins with, after which a character begins.
 pub quoted_closes : (src : List ℕ) (i e j : ℕ) → IsQuoted src i e j → byte src e ≡ byte src i
@@ -87,20 +70,14 @@ quoted_cut src i e j utf8 q =
 -- What is there is read.
 pub quoted_complete : (src : List ℕ) (i e j : ℕ) → IsQuoted src i e j → quoted_at src i ≡ Ok (slice src (i + 1) e, j)
 unfolding quoted_at
-quoted_complete src i e j q =
-    let quote = quote_complete src i q.0 in
-    let low = quote_ascii (byte src i) q.0 in
-    let b = byte_complete (byte src i) src e (quoted_closes src i e j q) (λ z. omega arith) in
-    let is = q.1 in let next = q.3 in
-    rw (quote, ← is, b, next) refl
+quoted_complete src i e j q = grind (arith, quote_complete, byte_complete, quoted_closes)
 
 -- ---- what is asked for
 
 -- A character begins after a word whose last byte is this.
 pub word_cut : (w : Word) (src : List ℕ) (i n b : ℕ) → IsUtf8 src → at w src i ≡ true → n < length (word_text w) → byte (word_text w) n ≡ b → 0 < b → b < 128 → IsCharBoundary src (i + n + 1)
 word_cut w src i n b utf8 is here last some low =
-    let e = stands_reads (word_text w) src i n is here in
-    cut_behind src (i + n) b (i + n + 1) utf8 (e ∙ last) some low refl
+    cut_behind src (i + n) b (i + n + 1) utf8 ((stands_reads (word_text w) src i n is here) ∙ last) some low refl
 
 -- Six bytes.
 pub six_cut : (w : Word) (src : List ℕ) (i b : ℕ) → IsUtf8 src → at w src i ≡ true → 5 < length (word_text w) → byte (word_text w) 5 ≡ b → 0 < b → b < 128 → IsCharBoundary src (i + 6)
@@ -132,18 +109,15 @@ pub external_complete : (src : List ℕ) (i : ℕ) (request : Request) (j : ℕ)
 unfolding external_id_at system_at public_at
 external_complete src i request j utf8 (system _ s e _ is sp q) =
     let a = space_complete src (i + 6) s utf8 (six_cut word.System src i 77 utf8 is (omega arith) refl (omega arith) (omega arith)) sp in
-    let b = quoted_complete src s e j q in
-    rw (is, a, b) refl
+    rw (is, a, (quoted_complete src s e j q)) refl
 external_complete src i request j utf8 (public _ p d k s e _ is sp q sp' q') =
     let none : at word.System src i ≡ false = false_from_ne_true _ (λ h.
     (let one : byte src (i + 0) ≡ 83 = stands_reads (word_text word.System) src i 0 h (omega arith) in
     let two : byte src (i + 0) ≡ 80 = stands_reads (word_text word.Public) src i 0 is (omega arith) in
     omega arith)) in
     let a = space_complete src (i + 6) p utf8 (six_cut word.Public src i 67 utf8 is (omega arith) refl (omega arith) (omega arith)) sp in
-    let b = quoted_complete src p d k q in
     let c = space_complete src k s utf8 (quoted_cut src p d k utf8 q) sp' in
-    let f = quoted_complete src s e j q' in
-    rw (none, is, a, b, c, f) refl
+    rw (none, is, a, (quoted_complete src p d k q), c, (quoted_complete src s e j q')) refl
 
 -- A character begins after it, within the source.
 pub external_cut : (src : List ℕ) (i : ℕ) (request : Request) (j : ℕ) → IsUtf8 src → IsExternalID src i request j → IsCharBoundary src j × (i < j) × (i < length src)
@@ -170,18 +144,12 @@ external_byte src i request j (public _ p d k s e _ is sp q sp' q') =
 -- A name that is read, or the end of the text.
 pub name_or_end : (src : List ℕ) (i : ℕ) (x : List ℕ × ℕ) → name_or_end_at src i ≡ Ok x → (IsName src i x.1 × (x.0 ≡ slice src i x.1)) ⊎ ((length src ≤ i) × (x.1 ≡ i))
 unfolding name_or_end_at
-name_or_end src i x h =
-    chosen (leb (length src) i) _ _ _ h
-    (λ out e. inr (leb-true _ _ out, sym (ap (λ p. p.1) (ok_same _ _ e))))
-    (λ more h. inl (name_sound src i x h))
+name_or_end src i x h = grind (arith, name_sound)
 
 -- A name that is there is read.
 named_there : (src : List ℕ) (i j : ℕ) → IsName src i j → name_or_end_at src i ≡ Ok (slice src i j, j)
 unfolding name_or_end_at
-named_there src i j name =
-    let k = lt-leb (length src) i (begins_within is_name_start src i name.starts) in
-    let n = name_complete src i j name in
-    rw (k, n) refl
+named_there src i j name = grind (arith, begins_within, name_complete)
 
 -- What is read of it is there, or the text is cut off before its name.
 pub notation_sound : (parameter : Bool) (src : List ℕ) (i : ℕ) (x : Unit {0} × ℕ) → notation_at parameter src i ≡ Ok x → MayHaveNotation src parameter i x.1 ⊎ CutsNotation src parameter i x.1
@@ -202,11 +170,8 @@ notation_sound false src i x h =
 pub notation_complete : (parameter : Bool) (src : List ℕ) (i j : ℕ) → IsUtf8 src → MayHaveNotation src parameter i j → notation_at parameter src i ≡ Ok (tt, j)
 unfolding notation_at
 notation_complete parameter src i j utf8 (notation _ s _ is sp name) =
-    let last : spaces_end src i + 4 + 1 ≡ spaces_end src i + 5 = omega arith in
-    let cut = subst (IsCharBoundary src) last (word_cut word.NData src (spaces_end src i) 4 65 utf8 is (omega arith) refl (omega arith) (omega arith)) in
-    let a = space_complete src (spaces_end src i + 5) s utf8 cut sp in
-    let n = named_there src s j name in
-    rw (is, a, n) refl
+    let cut = subst (IsCharBoundary src) (omega arith) (word_cut word.NData src (spaces_end src i) 4 65 utf8 is (omega arith) refl (omega arith) (omega arith)) in
+    rw (is, (space_complete src (spaces_end src i + 5) s utf8 cut sp), (named_there src s j name)) refl
 notation_complete parameter src i j utf8 (no_notation _ none) = rw none refl
 notation_complete parameter src i j utf8 (of_parameter _) = refl
 
@@ -241,13 +206,11 @@ pub inner_complete : (parameter : Bool) (src : List ℕ) (i e j : ℕ) → IsQuo
 unfolding definition_at
 inner_complete parameter src i e j q =
     let low = quote_ascii (byte src i) q.0 in
-    let k = lt-leb (length src) i (within src i (λ z. omega arith)) in
     let test : (byte src i == 34 || byte src i == 39) ≡ true = elim q.0 as (λ _. (byte src i == 34 || byte src i == 39) ≡ true) [ inl a ↦ or_right _ _ (eq-eqb _ _ a) | inr b ↦ or_left _ _ (eq-eqb _ _ b) ] in
-    let r = quoted_complete src i e j q in
     let le = quoted_le src i e j q in
     let long = range_length src (i + 1) e le.0 (omega (arith, q.2)) in
     let to : i + 1 + length (slice src (i + 1) e) ≡ e = omega (arith, le.0) in
-    rw (k, test, r, to) refl
+    rw ((lt-leb (length src) i (within src i (λ z. omega arith))), test, (quoted_complete src i e j q), to) refl
 
 -- So is what is asked for.
 pub outer_complete : (parameter : Bool) (src : List ℕ) (i n j : ℕ) (request : Request) → IsUtf8 src → IsExternalID src i request n → MayHaveNotation src parameter n j
@@ -261,9 +224,7 @@ outer_complete parameter src i n j request utf8 is may =
       | inl a ↦ or_from _ _ (ne_eqb (byte src i) 34 (λ e. omega (arith, e, a))) (ne_eqb (byte src i) 39 (λ e. omega (arith, e, a)))
       | inr c ↦ or_from _ _ (ne_eqb (byte src i) 34 (λ e. omega (arith, e, c))) (ne_eqb (byte src i) 39 (λ e. omega (arith, e, c)))
     ] in
-    let r = external_complete src i request n utf8 is in
-    let m = notation_complete parameter src n j utf8 may in
-    rw (k, bare, some, r, m) refl
+    rw (k, bare, some, (external_complete src i request n utf8 is), (notation_complete parameter src n j utf8 may)) refl
 
 -- ---- how a declaration of an entity begins
 
@@ -279,8 +240,7 @@ pub kind_complete : (src : List ℕ) (i : ℕ) (parameter : Bool) (j : ℕ) → 
 unfolding kind_at
 kind_complete src i parameter j utf8 (grammar.of_parameter _ _ is sp) =
     let a = space_complete src (i + 1) j utf8 (cut_behind src i 37 (i + 1) utf8 is (omega arith) (omega arith) refl) sp in
-    let e = eq-eqb _ _ is in
-    rw (e, a) refl
+    rw ((eq-eqb _ _ is), a) refl
 kind_complete src i parameter j utf8 (grammar.general _ apart) = let e = ne_eqb _ _ apart in rw e refl
 
 kind_cut : (src : List ℕ) (i : ℕ) (parameter : Bool) (j : ℕ) → IsUtf8 src → IsCharBoundary src i → IsKind src i parameter j → IsCharBoundary src j × (i ≤ j)
@@ -317,16 +277,14 @@ head_cuts src i parameter n m d utf8 b =
     let one = subst (IsCharBoundary src) last (word_cut word.EntityStart src i 7 89 utf8 b.opens (omega arith) refl (omega arith) (omega arith)) in
     let two = space_cut src (i + 8) b.k utf8 one b.space_before in
     let three = kind_cut src b.k parameter n utf8 two b.is_kind in
-    let l = b.name.longest in
-    let four : IsCharBoundary src m = rw l (run_cut is_name_char src n utf8 three.0) in
+    let four : IsCharBoundary src m = rw b.name.longest (run_cut is_name_char src n utf8 three.0) in
     let some = b.space_before.0 in let some' = b.space_behind.0 in
     record { at_word = one; at_kind = two; at_name = three.0; behind_name = four; at_definition = space_cut src m d utf8 four b.space_behind; forward = omega (arith, three.1, run_end_le is_name_char src n) }
 
 -- It goes forward.
 pub head_moves : (src : List ℕ) (i : ℕ) (parameter : Bool) (n m d : ℕ) → IsUtf8 src → BeginsEntity src i parameter n m d → (i < d) × (i < length src)
 head_moves src i parameter n m d utf8 is =
-    let b = begins_parts is in
-    let c = head_cuts src i parameter n m d utf8 b in
+    let c = head_cuts src i parameter n m d utf8 (begins_parts is) in
     (c.forward, omega arith)
 
 -- What is there is read.
@@ -336,11 +294,8 @@ unfolding entity_head_at
 head_complete src i parameter n m d utf8 is =
     let b = begins_parts is in
     let c = head_cuts src i parameter n m d utf8 b in
-    let one = space_complete src (i + 8) b.k utf8 c.at_word b.space_before in
-    let two = kind_complete src b.k parameter n utf8 b.is_kind in
-    let three = name_complete src n m b.name in
     let four = space_complete src m d utf8 c.behind_name b.space_behind in
-    rw (one, two, three, four) refl
+    rw ((space_complete src (i + 8) b.k utf8 c.at_word b.space_before), (kind_complete src b.k parameter n utf8 b.is_kind), (name_complete src n m b.name), four) refl
 
 -- ---- how a document type declaration begins
 
@@ -362,11 +317,7 @@ external_word src i request j h = grind arith
 
 pub if_complete : (src : List ℕ) (i j : ℕ) → IsUtf8 src → MayHaveExternalID src i j → external_id_if src i ≡ Ok (tt, j)
 unfolding external_id_if
-if_complete src i j utf8 (external_id _ _ request is) =
-    let w = external_word src i request j is in
-    let r = external_complete src i request j utf8 is in
-    rw (w, r) refl
-if_complete src i j utf8 (no_external_id _ a b) = rw (a, b) refl
+if_complete src i j h k = grind (arith, external_complete)
 
 -- Past the end there is none.
 if_past : (src : List ℕ) (i j : ℕ) → IsUtf8 src → length src ≤ i → MayHaveExternalID src i j → i ≤ j
@@ -377,24 +328,15 @@ pub doctype_head_sound : (src : List ℕ) (i : ℕ) (x : Unit {0} × ℕ) → Is
 unfolding doctype_head_at
 doctype_head_sound src i x utf8 opens h inside =
     bind_ok (space_at src (i + 9)) _ _ h (λ n spaced h. bind_ok (name_or_end_at src n.1) _ _ h (λ name named h. bind_ok (external_id_if src (spaces_end src name.1)) _ _ h (λ y may h.
-    let e : spaces_end src y.1 ≡ x.1 = ap (λ p. p.1) (ok_same _ _ h) in
     let m = if_sound src (spaces_end src name.1) y may in
     elim (name_or_end src n.1 name named) as (λ _. BeginsDoctype src i x.1) [
-      | inl is ↦ subst (BeginsDoctype src i) e (doctype_begins n.1 name.1 y.1 opens (space_sound src (i + 9) n spaced) is.0 m)
-      | inr cut ↦ absurd (
-          let far = run_end_le is_space src name.1 in
-          let same : name.1 ≡ n.1 = cut.1 in
-          let past : length src ≤ spaces_end src name.1 = omega (arith, cut.0) in
-          omega (arith, if_past src (spaces_end src name.1) y.1 utf8 past m, run_end_le is_space src y.1))
+      | inl is ↦ subst (BeginsDoctype src i) (ap (λ p. p.1) (ok_same _ _ h)) (doctype_begins n.1 name.1 y.1 opens (space_sound src (i + 9) n spaced) is.0 m)
+      | inr cut ↦ grind (arith, run_end_le, if_past)
     ])))
 
 -- What is there is read.
 pub doctype_head_complete : (src : List ℕ) (i s : ℕ) → IsUtf8 src → BeginsDoctype src i s → doctype_head_at src i ≡ Ok (tt, s)
 unfolding doctype_head_at
 doctype_head_complete src i s utf8 (doctype_begins n m x opens space name external) =
-    let last : i + 8 + 1 ≡ i + 9 = omega arith in
-    let cut = subst (IsCharBoundary src) last (word_cut word.DoctypeStart src i 8 69 utf8 opens (omega arith) refl (omega arith) (omega arith)) in
-    let one = space_complete src (i + 9) n utf8 cut space in
-    let two = named_there src n m name in
-    let three = if_complete src (spaces_end src m) x utf8 external in
-    rw (one, two, three) refl
+    let cut = subst (IsCharBoundary src) (omega arith) (word_cut word.DoctypeStart src i 8 69 utf8 opens (omega arith) refl (omega arith) (omega arith)) in
+    rw ((space_complete src (i + 9) n utf8 cut space), (named_there src n m name), (if_complete src (spaces_end src m) x utf8 external)) refl

@@ -51,18 +51,12 @@ answer_sound (Some t) text utf8 h =
 
 pub answer_complete : (answer : Option (List ℕ)) (text : Option Replacement) → GivesReplacement answer text → answer_text answer ≡ Ok text
 unfolding answer_text
-answer_complete answer text nothing = refl
-answer_complete answer text (the_rest t d utf8 (declared _ _ is)) = let a = declaration_opens t (after_bom t) d is in let r = declaration_complete t utf8 (after_bom t) d is in rw (a, r) refl
-answer_complete answer text (the_rest t d utf8 (not_declared _ none)) = rw none refl
+answer_complete answer text h = grind (arith, declaration_opens, declaration_complete)
 
 -- Its fault is one of the text.
 pub answer_fault : (answer : Option (List ℕ)) (e : Refusal) → answer_text answer ≡ Err e → IsTextRefusal e
 unfolding answer_text
-answer_fault None e h = cc h
-answer_fault (Some t) e h =
-    either (behind_declaration t)
-    (λ x read. cc (rw read at h))
-    (λ f ill. let same : ◌≡◌ {A = Result (Option Replacement) Refusal} (Err (there t f)) (Err e) = rw ill at h in let e' : there t f ≡ e = cc in subst IsTextRefusal e' tt)
+answer_fault answer e h = grind arith
 
 -- ---- what is asked
 
@@ -146,8 +140,7 @@ module _ (src : List ℕ) (utf8 : IsUtf8 src) where
             let c = byte_sound 62 src (spaces_end src j) end ends in
             let s = definition_sound head.0.parameter src head.1 (outer request, j) is in
             let t = next_text d.replies texts in
-            let text_is : IsTextReply (Ok answer) = subst IsTextReply replied t.0 in
-            let gives = answer_sound answer text text_is read in
+            let gives = answer_sound answer text (subst IsTextReply replied t.0) read in
             rw (is_head, is, replied, read, ends)
             (entity_is (once request answer) text j end.1 (other_replies d.replies) t.1
             (external head.1 s.0 j request answer text s.1 (not_cut src head.0.parameter s.0 j c.0 s.2) gives) c.0 c.1))
@@ -204,9 +197,8 @@ module _ (src : List ℕ) (utf8 : IsUtf8 src) where
       let b = declaration_parts is in
       let h = head_moves src i b.parameter b.n b.m b.d utf8 b.begins in
       let l = within src (spaces_end src b.e) (λ z. omega (arith, b.closes)) in
-      let next = b.next in
       let definition = definition_moves b.parameter b.d b.e asked b.text b.definition in
-      (h.1, omega (arith, h.0, definition, run_end_le is_space src b.e), omega arith, cut_behind src (spaces_end src b.e) 62 j utf8 b.closes (omega arith) (omega arith) next)
+      (h.1, omega (arith, h.0, definition, run_end_le is_space src b.e), omega arith, cut_behind src (spaces_end src b.e) 62 j utf8 b.closes (omega arith) (omega arith) b.next)
 
   pub entity_complete : (d : Dtd) (j : ℕ) (asked : List Asked) (es : List Entity) → IsEntityDeclaration src d.state.at j asked es
       → Answered (entity_run src d) asked (record { state = at_place j d.state; entities = d.entities ++ es; replies = d.replies })

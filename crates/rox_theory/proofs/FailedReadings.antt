@@ -1,10 +1,10 @@
 -- How a reading that failed went, and the smallest faults.
-use Rattle.std.proofs.Common.{◌≡◌, ℕ, ◌+◌, ◌-◌, ◌<◌, ◌≤◌, ◌||◌, ◌&&◌, not, Bool, true, false, eqb, ltb, leb, List, [], ◌∷◌, ◌++◌, length, take, drop, refl, sym, ap, ◌∙◌, subst, arith, inl, inr, add-zero, get_or, get_or-drop, append_assoc, length-append, length-take, length-drop}
+use Rattle.std.proofs.Common.{◌≡◌, ℕ, ◌+◌, ◌-◌, ◌<◌, ◌≤◌, Bool, true, false, eqb, ltb, leb, List, [], ◌∷◌, ◌++◌, length, take, drop, refl, sym, ap, ◌∙◌, subst, arith, inl, inr, add-zero, get_or, get_or-drop, append_assoc, length-append, length-take, length-drop}
 use Rattle.std.specs.Prelude.{Result, Ok, Err, slice_index}
 use Rattle.std.specs.Char.{encode_utf8, len_utf8}
 use Rattle.std.specs.Str.{chars, IsUtf8, IsCharBoundary, encode_utf8_all, all_scalars}
 use Rattle.std.proofs.lemmas.List.{append-nil, drop-drop, drop-take, drop-append-le, take-append-drop}
-use Rattle.std.proofs.lemmas.Bool.{cases_Bool, cases_lt, lt-ltb, le-ltb, eqb-false, leb-false, leb-true, ltb-true, and_parts}
+use Rattle.std.proofs.lemmas.Bool.{cases_Bool, eqb-false, leb-false, leb-true, ltb-true, and_parts}
 use Rattle.std.proofs.lemmas.Str.{chars-encodes, encodes-chars, encodes-append, chars-append, length-encode, len_utf8_bounds, IsUtf8-drop, IsUtf8-take, IsUtf8-between, IsCharBoundary-from_drop}
 use Rattle.std.proofs.Math.Seq.{drop-append_seam, take-add}
 use Rattle.std.proofs.Math.Utf8.{scalar, scalars}
@@ -13,8 +13,8 @@ use Rattle.std.proofs.lemmas.Grind.{common_steps}
 use Rattle.rox_grammar.specs.declared.fault.Fault.{Fault}
 use Rattle.rox_grammar.specs.declared.fault.Expected.{Expected}
 use Rattle.rox_grammar.specs.declared.fault.Fault.TheVariants as fault
-use Rattle.rox_grammar.specs.Chars.{is_char, is_part_char, is_name_start}
-use Rattle.rox_grammar.specs.Runs.{run_end, begins, passing, StandsAt}
+use Rattle.rox_grammar.specs.Chars.{is_char}
+use Rattle.rox_grammar.specs.Runs.{run_end, passing, StandsAt}
 use Rattle.rox_grammar.specs.Search.{stands}
 use Rattle.rox_grammar.specs.ExpectedTexts.{expected_text}
 use Rattle.rox_grammar.specs.Names.{byte}
@@ -83,23 +83,19 @@ unfolding run_end
 ill_char src i e q utf8 cut end le is before =
     let front = take e src in
     let long : length front ≡ e = omega (arith, length-take e src, end.0) in
-    let utf8' = IsUtf8-take src e utf8 end in
-    let to_end : i + (e - i) ≡ e = omega arith in
-    let middle : drop i front ≡ take (e - i) (drop i src) = subst (λ (k : ℕ). drop i (take k src) ≡ take (e - i) (drop i src)) to_end (drop-take i (e - i) src) in
+    let middle : drop i front ≡ take (e - i) (drop i src) = subst (λ (k : ℕ). drop i (take k src) ≡ take (e - i) (drop i src)) (omega arith) (drop-take i (e - i) src) in
     let cut' : IsCharBoundary front i = IsCharBoundary-from_drop front i (omega arith) (subst IsUtf8 (sym middle) (IsUtf8-between src i e utf8 le cut end)) in
-    let spelled = IsUtf8-drop front i utf8' cut' in
+    let spelled = IsUtf8-drop front i (IsUtf8-take src e utf8 end) cut' in
     let all : chars (drop i front) ≡ spelled.0 = ap chars (sym spelled.1.1) ∙ chars-encodes spelled.0 spelled.1.0 in
     let same : i + passing is_char spelled.0 ≡ q = ap (λ (cs : List ℕ). i + passing is_char cs) (sym all) ∙ sym is in
     let found = fails_in is_char front spelled.0 i (sym spelled.1.1) spelled.1.0 (omega arith) in
     let c = found.0 in
     let there : drop q front ≡ encode_utf8_all (c ∷ found.1) = subst (λ (k : ℕ). drop k front ≡ encode_utf8_all (c ∷ found.1)) same found.2 in
     let whole : drop q src ≡ drop q front ++ drop e src = ap (drop q) (sym (take-append-drop e src)) ∙ drop-append-le q front (drop e src) (omega arith) in
-    let rest : IsUtf8 (drop q front) = (c ∷ found.1, (found.4, sym there)) in
-    let are : chars (drop q front) ≡ c ∷ found.1 = ap chars there ∙ chars-encodes (c ∷ found.1) found.4 in
     let first : slice_index (chars (drop q src)) 0 ≡ c =
     ap (λ (bs : List ℕ). slice_index (chars bs) 0) whole
-    ∙ ap (λ (cs : List ℕ). slice_index cs 0) (chars-append (drop q front) (drop e src) rest)
-    ∙ head_is (chars (drop q front)) (chars (drop e src)) c found.1 are in
+    ∙ ap (λ (cs : List ℕ). slice_index cs 0) (chars-append (drop q front) (drop e src) ((c ∷ found.1, (found.4, sym there))))
+    ∙ head_is (chars (drop q front)) (chars (drop e src)) c found.1 (ap chars there ∙ chars-encodes (c ∷ found.1) found.4) in
     let standing : StandsAt c src q = stands_there src q c (encode_utf8_all found.1) (drop e src) (whole ∙ ap (λ (bs : List ℕ). bs ++ drop e src) there) in
     (subst (λ (d : ℕ). StandsAt d src q) (sym first) standing, ap is_char first ∙ found.3)
 
@@ -135,12 +131,7 @@ string_fails w src i f h =
 -- The fault of a name that is none.
 qname_fault : (src : List ℕ) (i : ℕ) (f : Fault) → qname_at src i ≡ Err f → f ≡ fault.InvalidName i
 unfolding qname_at
-qname_fault src i f h =
-    let k = run_end is_part_char src i in
-    let j = run_end is_part_char src (k + 1) in
-    chosen (eqb (byte src k) 58) _ _ _ h
-    (λ is h. chosen (((eqb k i || begins is_name_start src i) && begins is_name_start src (k + 1)) && not (eqb (byte src (k + 1)) 58 || eqb (byte src j) 58)) _ _ _ h (λ fine h. cc) (λ fails h. cc))
-    (λ none h. chosen (begins is_name_start src i) _ _ _ h (λ fine h. cc) (λ fails h. cc))
+qname_fault src i f h = grind (arith, nat_tests)
 
 -- A qualified name that is required.
 pub qname_fails : (src : List ℕ) (i : ℕ) (f : Fault) → qname_at src i ≡ Err f → IsMissing src i a_qname f
@@ -169,17 +160,7 @@ ill_scalar c h = grind (arith, nat_tests)
 -- A character begins with no byte that continues with one.
 lead_byte : (c : ℕ) (rest : List ℕ) → 128 ≤ get_or (encode_utf8 c ++ rest) 0 0 → 192 ≤ get_or (encode_utf8 c ++ rest) 0 0
 unfolding encode_utf8
-lead_byte c rest =
-    elim (cases_lt c 128) as (λ s. 128 ≤ get_or (encode_utf8 c ++ rest) 0 0 → 192 ≤ get_or (encode_utf8 c ++ rest) 0 0) [
-      | inl one ↦ (let e = lt-ltb c 128 one in rw e (λ high. absurd (omega arith)))
-      | inr more ↦ elim (cases_lt c 2048) as (λ s. 128 ≤ get_or (encode_utf8 c ++ rest) 0 0 → 192 ≤ get_or (encode_utf8 c ++ rest) 0 0) [
-        | inl two ↦ (let e = le-ltb c 128 more in let f = lt-ltb c 2048 two in rw (e, f) (λ high. omega arith))
-        | inr more' ↦ elim (cases_lt c 65536) as (λ s. 128 ≤ get_or (encode_utf8 c ++ rest) 0 0 → 192 ≤ get_or (encode_utf8 c ++ rest) 0 0) [
-          | inl three ↦ (let e = le-ltb c 128 more in let f = le-ltb c 2048 more' in let g = lt-ltb c 65536 three in rw (e, f, g) (λ high. omega arith))
-          | inr four ↦ (let e = le-ltb c 128 more in let f = le-ltb c 2048 more' in let g = le-ltb c 65536 four in rw (e, f, g) (λ high. omega arith))
-        ]
-      ]
-    ]
+lead_byte c rest = grind arith
 
 -- So no other character stands among Chars.
 pub chars_refuse : (src : List ℕ) (i e q c : ℕ) → IsUtf8 src → IsCharBoundary src i → IsCharBoundary src e → i ≤ q → q < e → run_end is_char (take e src) i ≡ e → StandsAt c src q → is_char c ≡ false → ⊥
@@ -194,13 +175,10 @@ chars_refuse src i e q c utf8 cut end from below all stands' ill =
     let two = IsUtf8-between src q e utf8 (omega arith) at_q end in
     let a = take (q - i) (drop i src) in
     let b = take (e - q) (drop q src) in
-    let to_end : i + (e - i) ≡ e = omega arith in
-    let parts : q - i + (e - q) ≡ e - i = omega arith in
-    let to_q : i + (q - i) ≡ q = omega arith in
-    let middle : drop i (take e src) ≡ take (e - i) (drop i src) = subst (λ (k : ℕ). drop i (take k src) ≡ take (e - i) (drop i src)) to_end (drop-take i (e - i) src) in
+    let middle : drop i (take e src) ≡ take (e - i) (drop i src) = subst (λ (k : ℕ). drop i (take k src) ≡ take (e - i) (drop i src)) (omega arith) (drop-take i (e - i) src) in
     let halves : take (q - i + (e - q)) (drop i src) ≡ a ++ take (e - q) (drop (q - i) (drop i src)) = take-add (q - i) (e - q) (drop i src) in
-    let second : drop (q - i) (drop i src) ≡ drop q src = drop-drop (q - i) i src ∙ ap (λ (k : ℕ). drop k src) to_q in
-    let split : drop i (take e src) ≡ a ++ b = middle ∙ ap (λ (k : ℕ). take k (drop i src)) (sym parts) ∙ halves ∙ ap (λ (bs : List ℕ). a ++ take (e - q) bs) second in
+    let second : drop (q - i) (drop i src) ≡ drop q src = drop-drop (q - i) i src ∙ ap (λ (k : ℕ). drop k src) (omega arith) in
+    let split : drop i (take e src) ≡ a ++ b = middle ∙ ap (λ (k : ℕ). take k (drop i src)) (sym (omega arith)) ∙ halves ∙ ap (λ (bs : List ℕ). a ++ take (e - q) bs) second in
     let both : chars (drop i (take e src)) ≡ chars a ++ chars b = ap chars split ∙ chars-append a b one in
     let long : length (a ++ b) ≡ e - i = ap length (sym split) ∙ length-drop i (take e src) ∙ (let n = length-take e src in omega (arith, n, end.0)) in
     let spelled : encode_utf8_all (chars a ++ chars b) ≡ a ++ b = encodes-append (chars a) (chars b) ∙ rw (encodes-chars a one, encodes-chars b two) refl in
@@ -220,7 +198,6 @@ chars_refuse src i e q c utf8 cut end from below all stands' ill =
         let front = chars (take (q - i) (drop i src)) in
         let pass' : passing is_char (front ++ d ∷ ds) ≡ length (encode_utf8_all (front ++ d ∷ ds)) =
         subst (λ (cs : List ℕ). passing is_char (front ++ cs) ≡ length (encode_utf8_all (front ++ cs))) (sym is) pass in
-        let fine = each_passes is_char front ds d pass' in
         let whole : drop q src ≡ take (e - q) (drop q src) ++ drop (e - q) (drop q src) = sym (take-append-drop (e - q) (drop q src)) in
         let here : slice_index (chars (drop q src)) 0 ≡ d =
         ap (λ (bs : List ℕ). slice_index (chars bs) 0) whole ∙ ap (λ (cs : List ℕ). slice_index cs 0) (chars-append (take (e - q) (drop q src)) (drop (e - q) (drop q src)) two)
@@ -231,5 +208,4 @@ chars_refuse src i e q c utf8 cut end from below all stands' ill =
         let there : slice_index (chars (drop q src)) 0 ≡ c =
         ap (λ (bs : List ℕ). slice_index (chars bs) 0) stands' ∙ ap (λ (cs : List ℕ). slice_index cs 0) (chars-append (encode_utf8 c) (drop (q + len_utf8 c) src) single)
         ∙ head_is (chars (encode_utf8 c)) (chars (drop (q + len_utf8 c) src)) c [] is_c in
-        let same : d ≡ c = sym here ∙ there in
-        cc (sym ill ∙ sym (ap is_char same) ∙ fine)
+        cc (sym ill ∙ sym (ap is_char (sym here ∙ there)) ∙ (each_passes is_char front ds d pass'))

@@ -1,7 +1,7 @@
 -- Where a fixed text is first, and whether a stretch of the source holds one.
 use Rattle.std.proofs.Common.{◌≡◌, ℕ, zero, suc, ◌+◌, ◌-◌, ◌<◌, ◌≤◌, ◌||◌, ◌==◌, true, false, List, [], ◌∷◌, length, take, drop, refl, sym, ap, ◌∙◌, subst, arith, inl, inr, get_or-drop, length-drop, length-take}
 use Rattle.std.specs.List.{starts_with}
-use Rattle.std.proofs.lemmas.Bool.{cases_Bool, cases_lt, false≢true, lt-ltb, le-ltb, eqb-true, eq-eqb, ne_eqb, or_from, or_left, or_right}
+use Rattle.std.proofs.lemmas.Bool.{cases_Bool, cases_lt, false≢true, lt-ltb, eqb-true, eq-eqb, ne_eqb, or_from, or_left, or_right}
 use Rattle.std.proofs.lemmas.List.{take-take, drop-take, drop-drop, get_or-take}
 use Rattle.std.proofs.lemmas.Grind.{common_steps}
 use Rattle.rox_grammar.specs.FixedTexts.{word_text, double_dash}
@@ -53,9 +53,7 @@ front_without mark (suc n) (b ∷ bs) le =
       | inl here ↦ absurd (let le' : suc n ≤ 0 = rw here at le in omega arith)
       | inr later ↦ (
           let le' : suc n ≤ 1 + before_mark mark bs = rw later at le in
-          let front : starts_with ◌==◌ (b ∷ take n bs) mark ≡ false = no_front mark (suc n) (b ∷ bs) later in
-          let ih = front_without mark n bs (omega arith) in
-          rw front (omega (arith, ih)))
+          rw (no_front mark (suc n) (b ∷ bs) later) (omega (arith, (front_without mark n bs (omega arith)))))
     ]
 
 -- ---- in a source
@@ -65,8 +63,7 @@ pub mark_stands : (mark src : List ℕ) (i : ℕ) → mark_from mark src i < len
 unfolding stands mark_from
 mark_stands mark src i some =
     let long = length-drop i src in
-    let h = first_stands mark (drop i src) (omega arith) in
-    subst (λ (l : List ℕ). starts_with ◌==◌ l mark ≡ true) (drop-drop (before_mark mark (drop i src)) i src) h
+    subst (λ (l : List ℕ). starts_with ◌==◌ l mark ≡ true) (drop-drop (before_mark mark (drop i src)) i src) (first_stands mark (drop i src) (omega arith))
 
 -- No place before it has.
 pub mark_first : (mark src : List ℕ) (i k : ℕ) → i ≤ k → stands mark src k ≡ true → mark_from mark src i ≤ k
@@ -80,9 +77,7 @@ mark_first mark src i k from h =
 -- What is before it holds none.
 pub mark_behind : (mark src : List ℕ) (i e : ℕ) → e ≤ mark_from mark src i → has_mark mark (slice src i e) ≡ false
 unfolding mark_from
-mark_behind mark src i e le =
-    let none = front_without mark (e - i) (drop i src) (omega arith) in
-    rw none (le-ltb (length (slice src i e)) (length (slice src i e)) (omega arith))
+mark_behind mark src i e le = grind (arith, front_without)
 
 -- What continues after it holds one.
 pub mark_inside : (mark src : List ℕ) (i e : ℕ) → 0 < length mark → e ≤ length src → mark_from mark src i + length mark ≤ e → has_mark mark (slice src i e) ≡ true
@@ -117,11 +112,8 @@ no_dashes src i e before closes =
     (ne_eqb (byte (slice src i e) (length (slice src i e) - 1)) 45 (λ last.
     elim (cases_lt i e) as (λ s. ⊥) [
       | inl some ↦ (
-          let at : i + (length (slice src i e) - 1) ≡ e - 1 = omega arith in
-          let next : e - 1 + 1 ≡ e + 0 = omega arith in
-          let one : byte src (e - 1) ≡ 45 = ap (byte src) (sym at) ∙ sym (slice_byte src i e (length (slice src i e) - 1) (omega arith)) ∙ last in
-          let two : byte src (e - 1 + 1) ≡ 45 = ap (byte src) next ∙ dash in
-          let first = mark_first double_dash src i (e - 1) (omega arith) (stands_two 45 45 src (e - 1) (omega arith) one two) in
+          let one : byte src (e - 1) ≡ 45 = ap (byte src) (sym (omega arith)) ∙ sym (slice_byte src i e (length (slice src i e) - 1) (omega arith)) ∙ last in
+          let first = mark_first double_dash src i (e - 1) (omega arith) (stands_two 45 45 src (e - 1) (omega arith) one (ap (byte src) (omega arith) ∙ dash)) in
           omega arith)
       | inr none ↦ grind arith
     ]))
@@ -137,9 +129,8 @@ two_dashes src i e le within before =
       | inr last ↦ (
           let from = mark_from_le double_dash src i in
           let here : byte src (k + 0) ≡ 45 = stands_reads double_dash src k 0 (mark_stands double_dash src i (omega arith)) (omega arith) in
-          let at : i + (length (slice src i e) - 1) ≡ k + 0 = omega arith in
           or_right (has_mark double_dash (slice src i e)) (byte (slice src i e) (length (slice src i e) - 1) == 45)
-          (eq-eqb _ _ (slice_byte src i e (length (slice src i e) - 1) (omega arith) ∙ ap (byte src) at ∙ here)))
+          (eq-eqb _ _ (slice_byte src i e (length (slice src i e) - 1) (omega arith) ∙ ap (byte src) (omega arith) ∙ here)))
     ]
 
 -- The first `-->` is where the first two dashes are, if it is there.
@@ -149,8 +140,7 @@ comment_ends src i e is closes =
     let fits = stands_fits (word_text word.CommentEnd) src e (omega arith) closes in
     let from = mark_from_le double_dash src i in
     let le = mark_first (word_text word.CommentEnd) src i e (omega arith) closes in
-    let here = mark_stands (word_text word.CommentEnd) src i (omega arith) in
-    let two = two_dashes_begin src k here in
+    let two = two_dashes_begin src k (mark_stands (word_text word.CommentEnd) src i (omega arith)) in
     let ge = mark_first double_dash src i k (mark_from_le (word_text word.CommentEnd) src i) two in
     omega arith
 
@@ -159,8 +149,7 @@ pub dashes_end : (src : List ℕ) (i e : ℕ) → i ≤ e → (has_mark double_d
     → stands (word_text word.CommentEnd) src e ≡ true → e ≡ mark_from double_dash src i
 dashes_end src i e from free closes =
     let fits = stands_fits (word_text word.CommentEnd) src e (omega arith) closes in
-    let two = two_dashes_begin src e closes in
-    let le = mark_first double_dash src i e from two in
+    let le = mark_first double_dash src i e from (two_dashes_begin src e closes) in
     grind (arith, two_dashes)
 
 -- Where the text has them, they are before.

@@ -9,7 +9,6 @@ use Rattle.rox_grammar.specs.Content.{Inclusion, last_part, then_entity, Value, 
 use Rattle.rox_grammar.specs.RunParts.{Parts}
 use Rattle.rox_grammar.specs.Entities.{Entity, Includes, most_deep, no_entities, included_in_main}
 use Rattle.rox_grammar.specs.Expansion.{Counts}
-use Rattle.rox_grammar.specs.Content.{attribute}
 
 -- What the one opens the other does, and the openings that the one takes the other counts.
 pub record Follows (O P : Inclusion) : Type 0 where

@@ -1,5 +1,5 @@
 -- One more item without children, and its limits.
-use Rattle.std.proofs.Common.{◌≡◌, ℕ, ◌+◌, ◌≤◌, nat_le, [], length, Ok, refl, sym, subst, arith, le-leb, leb-true}
+use Rattle.std.proofs.Common.{◌≡◌, ℕ, ◌+◌, ◌≤◌, nat_le, [], length, Ok, refl, sym, subst, arith, le-leb, leb-true, append_assoc}
 use Rattle.std.proofs.lemmas.List.{append-nil}
 use Rattle.rox_grammar.specs.Forest.{Forest, join}
 use Rattle.rox_grammar.specs.Written.{Item, leaf}
@@ -11,7 +11,6 @@ use Rattle.rox_grammar.specs.State.{Open, root, inside, scope_of, nodes_so_far, 
 use Rattle.rox_reading.specs.State.{State}
 use Rattle.rox_reading.specs.Machine.{counted, with_item}
 use Rattle.rox_reading.proofs.Forests.{pairs-join, attribute_count-join, named-left}
-use Rattle.std.proofs.Common.{append_assoc}
 use Rattle.rox_theory.proofs.Basics.{chosen}
 use Rattle.rox_theory.proofs.Standing.{AreNamed, IsValidState, distinct-append, distinct-grows, attributes-item, pairs-item, named-item, nodes-grow}
 pub use Rattle.rox_theory.specs.ValidState.{state}

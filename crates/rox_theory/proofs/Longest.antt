@@ -20,8 +20,7 @@ short_parts most (a ∷ first) later h = let x = short_parts most first later h.
 longest_both : (n : ℕ) (one others : List Entity) → longest one ≤ n → longest others ≤ n → longest (one ++ others) ≤ n
 longest_both n [] others h k = k
 longest_both n (e ∷ one) others h k =
-    let x = longest_both n one others (omega (arith, h)) k in
-    omega (arith, h, x)
+    omega (arith, h, (longest_both n one others (omega (arith, h)) k))
 
 module _ (src : List ℕ) (most : ℕ) where
   -- No longer than the text, or than an answer.

@@ -109,9 +109,8 @@ module _ (es : List Entity) (opener : ValueInclusion) (O : Inclusion) (agrees : 
   -- A text is content in one way, and as many may be opened after it.
   pub text_once : (i b c d : ℕ) (items more : Forest Item) → Content false O src i (length src) b c items → Content false O src i (length src) b d more → (items ≡ more) × (c ≡ d)
   text_once i b c d items more x y =
-      let first = text_complete O src i b c Nil items root x in
       let second = text_complete O src i b d Nil more root y in
-      let one = chain_once 0 (state i Nil root b) (state (length src) items root c) (state (length src) more root d) first second in
+      let one = chain_once 0 (state i Nil root b) (state (length src) items root c) (state (length src) more root d) (text_complete O src i b c Nil items root x) second in
       (ap (λ (s : State). s.done) one, ap (λ (s : State). s.openings_left) one)
 
 -- What is spent leaves one budget within the text, and one after it.

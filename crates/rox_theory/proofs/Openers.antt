@@ -1,5 +1,5 @@
 -- What a reference opens by the grammar is what is read, by the number of texts that may still be open.
-use Rattle.std.proofs.Common.{◌≡◌, ℕ, zero, suc, ◌<◌, Bool, true, false, List, length, refl, ap, subst, arith}
+use Rattle.std.proofs.Common.{◌≡◌, ℕ, zero, suc, ◌<◌, Bool, false, List, length, refl, ap, subst, arith}
 use Rattle.std.specs.Prelude.{Some, Ok}
 use Rattle.std.proofs.lemmas.Bool.{false≢true}
 use Rattle.rox_grammar.specs.Names.{byte}
@@ -27,10 +27,7 @@ no_stop src past = absurd (omega arith)
 
 values_none : (es : List Entity) (main : Bool) → AgreesValue es (Includes es zero main) (value_opener es zero main)
 unfolding value_opener
-values_none es main = record {
-  sound = λ name t after b c w found h. cc h;
-  complete = λ name after b c w h. absurd h;
-}
+values_none es main = grind arith
 
 module _ (es : List Entity) (texts : AreTexts es) (d : ℕ) (inner : AgreesValue es (Includes es d false) (value_opener es d false)) (main : Bool) where
   opened_sound : (name : List ℕ) (t : Replacement) (after b c : ℕ) (w : List ℕ) → text_of es name ≡ Some t → value_opener es (suc d) main t after b ≡ Ok (w, c) → (Includes es (suc d) main).value name b w c
@@ -41,11 +38,10 @@ module _ (es : List Entity) (texts : AreTexts es) (d : ℕ) (inner : AgreesValue
       bind_lifted (budget main after b) _ _ h (λ r spent h.
       bind_ok (elsewhere src (value_text false es (value_opener es d false) (length src) src (length src) t.start r)) _ _ h (λ x read h.
       let read' = elsewhere_ok src (value_text false es (value_opener es d false) (length src) src (length src) t.start r) x read in
-      let e : x.0 ≡ w = ap (λ (p : List ℕ × ℕ). p.0) (ok_same _ _ h) in
       let f : left_behind main b x.1 ≡ c = ap (λ (p : List ℕ × ℕ). p.1) (ok_same _ _ h) in
       let value = value_text_sound es src text.0 (length src) (omega arith) (no_stop src) false (Includes es d false) (value_opener es d false) inner (length src) t.start r x.1 x.0 text.1.0 (omega arith) (λ z. absurd (false≢true z)) read' in
       let chars = value_text_chars es src text.0 (length src) (omega arith) (no_stop src) false (Includes es d false) (value_opener es d false) inner (length src) t.start r x.1 x.0 refl text.1 text.1.0 (omega arith) read' in
-      subst (λ (v : List ℕ). (Includes es (suc d) main).value name b v c) e
+      subst (λ (v : List ℕ). (Includes es (suc d) main).value name b v c) (ap (λ (p : List ℕ × ℕ). p.0) (ok_same _ _ h))
       (subst (λ (n : ℕ). (Includes es (suc d) main).value name b x.0 n) f (t, r, x.1, found, budget_sound main after b r x.1 spent, chars, value))))
 
   opened_complete : (name : List ℕ) (after b c : ℕ) (w : List ℕ) → (Includes es (suc d) main).value name b w c → (t : Replacement) × (text_of es name ≡ Some t) × (value_opener es (suc d) main t after b ≡ Ok (w, c))
@@ -55,8 +51,7 @@ module _ (es : List Entity) (texts : AreTexts es) (d : ℕ) (inner : AgreesValue
       let src = t.source in
       let spent = budget_complete main after b r l c spends in
       let read = value_text_complete es src text.0 (length src) (omega arith) (no_stop src) false (Includes es d false) (value_opener es d false) inner (length src) t.start r l w text.1.0 (omega arith) text.1 (λ z. chars) value in
-      let last = spent.1 in
-      (t, found, rw (spent.0, read, last) refl)
+      (t, found, rw (spent.0, read, spent.1) refl)
 
   values_one_more : AgreesValue es (Includes es (suc d) main) (value_opener es (suc d) main)
   values_one_more = record { sound = opened_sound; complete = opened_complete }

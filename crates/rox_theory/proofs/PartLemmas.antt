@@ -5,7 +5,7 @@ use Rattle.std.specs.Char.{encode_utf8}
 use Rattle.std.specs.Str.{IsUtf8}
 use Rattle.std.proofs.lemmas.Str.{length-encode, len_utf8_bounds}
 use Rattle.std.proofs.lemmas.List.{get_or-take}
-use Rattle.std.proofs.lemmas.Bool.{eqb-true, eqb-false, eq-eqb, ne_eqb, lt-ltb, le-ltb, ltb-true, ltb-false, or_parts, or_from, cases_eq, cases_lt, cases_Bool, false≢true}
+use Rattle.std.proofs.lemmas.Bool.{eqb-true, eqb-false, eq-eqb, ne_eqb, lt-ltb, ltb-true, ltb-false, or_parts, or_from, cases_eq, cases_lt, cases_Bool, false≢true}
 use Rattle.rox_grammar.specs.declared.fault.Fault.{Fault}
 use Rattle.rox_grammar.specs.Names.{byte, slice}
 use Rattle.rox_grammar.specs.References.{IsReference, IsCharacter, predefined}
@@ -209,8 +209,7 @@ module _ (es : List Entity) (src : List ℕ) (utf8 : IsUtf8 src) (stop : ℕ) (l
   bit_on main i bit j x more (bit_stretch _ _ some to plain) ih h = bind_ok (more j) _ _ h (λ rest read h.
       let q = ih rest read in
       let end = ends_at q.0 rest.1 q.2 in
-      let le = part_le main src q.0 j q.1.0 q.1.1 in
-      subst (PartStands main i) (ok_same _ _ h) (q.0, stretch_on main q.0 (j - i) i j rest.0 (omega arith) le (omega arith) plain q.1, q.2))
+      subst (PartStands main i) (ok_same _ _ h) (q.0, stretch_on main q.0 (j - i) i j rest.0 (omega arith) (part_le main src q.0 j q.1.0 q.1.1) (omega arith) plain q.1, q.2))
   bit_on main i bit j x more (bit_character _ c _ r to) ih h = bind_ok (more j) _ _ h (λ rest read h.
       let q = ih rest read in
       let le = part_le main src q.0 j q.1.0 q.1.1 in
@@ -235,9 +234,7 @@ module _ (es : List Entity) (src : List ℕ) (utf8 : IsUtf8 src) (stop : ℕ) (l
   -- CR LF is read.
   cr_lf_read : (i : ℕ) → i + 1 < stop → byte src i ≡ 13 → byte src (i + 1) ≡ 10 → data_bit_at true es src stop i ≡ Ok (bytes_of (10 ∷ []), i + 2)
   unfolding data_bit_at
-  cr_lf_read i below cr lf =
-      let t : byte (take stop src) (i + 1) ≡ byte src (i + 1) = get_or-take stop src (i + 1) 0 below in
-      rw (t, cr, lf) refl
+  cr_lf_read i below cr lf = grind (arith, get_or-take)
 
   -- CR alone is read.
   cr_read : (i : ℕ) → byte src i ≡ 13 → eqb (byte (take stop src) (i + 1)) 10 ≡ false → data_bit_at true es src stop i ≡ Ok (bytes_of (10 ∷ []), i + 1)
@@ -248,17 +245,12 @@ module _ (es : List Entity) (src : List ℕ) (utf8 : IsUtf8 src) (stop : ℕ) (l
   character_read : (main : Bool) (i c m : ℕ) → IsCharacter src i c m → data_bit_at main es src stop i ≡ Ok (bytes_of (encode_utf8 c), m)
   unfolding data_bit_at expansion_at
   character_read main i c m r =
-      let amp = eq-eqb _ _ (character_opens src i c m r).0 in
-      let one = character_complete src i c m r in
-      rw (amp, one) refl
+      rw ((eq-eqb _ _ (character_opens src i c m r).0), (character_complete src i c m r)) refl
 
   -- And so is one to an entity.
   entity_read : (main : Bool) (i n j : ℕ) (t : Replacement) → IsReference src i n j → predefined (slice src (i + 1) n) ≡ None → text_of es (slice src (i + 1) n) ≡ Some t → data_bit_at main es src stop i ≡ Ok (opens t, j)
   unfolding data_bit_at expansion_at
-  entity_read main i n j t r none is =
-      let amp = eq-eqb _ _ (reference_opens src i n j r).0 in
-      let one = entity_complete src i n j r none in
-      rw (amp, one, is) refl
+  entity_read main i n j t r none is = grind (arith, entity_complete)
 
   -- Where a stretch ends.
   abbrev stretch_end : (main : Bool) → ℕ → ℕ
@@ -273,8 +265,7 @@ module _ (es : List Entity) (src : List ℕ) (utf8 : IsUtf8 src) (stop : ℕ) (l
   -- A stretch is read.
   stretch_read : (main : Bool) (i : ℕ) → byte src i ≢ 38 → (main ≡ true → byte src i ≢ 13) → data_bit_at main es src stop i ≡ Ok (bytes_of (slice src i (stretch_end main i)), stretch_end main i)
   unfolding data_bit_at
-  stretch_read true i amp cr = let a = ne_eqb (byte src i) 38 amp in let c = ne_eqb (byte src i) 13 (cr refl) in rw (a, c) refl
-  stretch_read false i amp cr = let a = ne_eqb (byte src i) 38 amp in rw a refl
+  stretch_read main i h k = grind arith
 
   -- ---- a part that is there is read
 
@@ -291,13 +282,7 @@ module _ (es : List Entity) (src : List ℕ) (utf8 : IsUtf8 src) (stop : ℕ) (l
   -- Nothing is read where the part ends.
   ends_read : (main : Bool) (n p : ℕ) (next : Next) → stop ≤ p + n → Ends es src stop p next → data_part main es n src stop p ≡ Ok ([], next)
   unfolding data_part
-  ends_read main zero p next enough (ends_run _ is) = refl
-  ends_read main (suc n) p next enough (ends_run _ is) = let past = le-ltb p stop (omega arith) in rw past refl
-  ends_read main zero p next enough (ends_entity _ m j t r none to is) = absurd (omega (arith, reference_opens src p m j r))
-  ends_read main (suc n) p next enough (ends_entity _ m j t r none to is) =
-      let here = lt-ltb p stop (omega (arith, reference_opens src p m j r)) in
-      let bit = entity_read main p m j t r none is in
-      rw (here, bit) refl
+  ends_read main n p next h k = grind (arith, reference_opens, entity_read)
 
   pub no_texts : (main : Bool) → Texts main [] []
   no_texts main = grind arith
@@ -325,8 +310,7 @@ module _ (es : List Entity) (src : List ℕ) (utf8 : IsUtf8 src) (stop : ℕ) (l
       let to = ends_at p next end in
       let known = stretch_bounds main i (omega (arith, to.0)) amp cr in
       let j = stretch_end main i in
-      let le : j ≤ p = grind arith in
-      let o = stretch_off main p (j - i) i j ss (omega (arith, known.0)) le (omega (arith, to.0)) known.2 q in
+      let o = stretch_off main p (j - i) i j ss (omega (arith, known.0)) (grind arith) (omega (arith, to.0)) known.2 q in
       let rest = ih j o.0 known.0 known.1 o.1 in
       (slice src i j ++ rest.0, bytes_on main n i j (slice src i j) rest.0 next (omega (arith, to.0)) (stretch_read main i amp cr) rest.1, o.2 rest.0 rest.2)
 

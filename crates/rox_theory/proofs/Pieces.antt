@@ -1,5 +1,5 @@
 -- The texts of a parse are made of its pieces, and an empty piece is an empty CDATA section.
-use Rattle.std.proofs.Common.{◌≡◌, ◌+◌, ◌-◌, ◌==◌, ℕ, zero, suc, Bool, true, false, not, List, [], ◌∷◌, length, refl, sym, ◌∙◌, ap, subst, inl, inr, arith}
+use Rattle.std.proofs.Common.{◌≡◌, ◌+◌, ◌==◌, ℕ, zero, suc, Bool, true, false, not, List, [], ◌∷◌, length, refl, sym, ◌∙◌, ap, subst, inl, inr, arith}
 use Rattle.std.specs.List.{list_any}
 use Rattle.std.proofs.lemmas.Bool.Decides.{nat_tests}
 use Rattle.std.proofs.lemmas.Grind.{common_steps}
@@ -75,9 +75,7 @@ module _ (text : List ℕ) (es : List Entity) where
       parts_made : (start stop i b c : ℕ) (items : Forest Item) (is : Parts main O src start stop i b c items) → Made items (parts_pieces main O opened src start stop i b c items is)
       parts_made start stop i b c items (last_part _ _ ss part) = piece_made start stop (is_verbatim (slice src start stop)) ss
       parts_made start stop i b d items (then_entity _ p j _ c _ _ ss inner more part (entity_reference n reference name) it rest) =
-          let x = opens.content (slice src (p + 1) n) b inner c it in
-          let y = parts_made start stop j c d more rest in
-          let both = made_join inner more _ _ x y in
+          let both = made_join inner more _ _ (opens.content (slice src (p + 1) n) b inner c it) (parts_made start stop j c d more rest) in
           made_join (piece start stop false ss) (join inner more) _ _ (piece_made start stop false ss) both
 
       mutual
@@ -150,8 +148,7 @@ whole_made src dtd asked es tree (element_and_misc i j c front one after prolog 
     let before : Made src es front (written_in src front) =
     subst (λ (f : Forest Item). Made src es f (written_in src f)) (sym a.all) (subst (λ (f : Forest Piece). Made src es (join a.before a.nodes) f) (sym (written-join src es src known a.before a.nodes)) both) in
     let root = element_made src es src known true (included_in_main es) (writes es most_deep true) (opens_made src es most_deep true) i j 255 c one element in
-    let behind = all_made src es src known j (length src) after others in
-    let back = made_join src es one after _ _ root behind in
+    let back = made_join src es one after _ _ root (all_made src es src known j (length src) after others) in
     let all = made_join src es front (join one after) _ _ before back in
     record { made = join_assoc front one after ∙ all.0; sections = all.1 }
 

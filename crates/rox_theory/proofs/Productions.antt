@@ -1,8 +1,5 @@
 -- What the rows of the smallest productions say, by name, and the rows from that.
-use Rattle.std.proofs.Common.{◌≡◌, ◌≢◌, ℕ, ◌+◌, ◌<◌, ◌≤◌, ◌^◌, ◌==◌, Bool, true, false, List, ◌∷◌, drop, refl, sym, subst, arith}
-use Rattle.std.specs.Prelude.{codes}
-use Rattle.std.proofs.lemmas.Bool.Decides.{Decides-eqb}
-use Rattle.std.proofs.lemmas.Slice.Eq.{starts_is}
+use Rattle.std.proofs.Common.{◌≡◌, ◌≢◌, ℕ, ◌+◌, ◌<◌, ◌≤◌, ◌^◌, ◌==◌, Bool, true, false, List, refl, sym, subst, arith}
 use Rattle.rox_grammar.specs.Chars.{is_char, is_name_start, is_part_char}
 use Rattle.rox_grammar.specs.Runs.{run_end, begins}
 use Rattle.rox_grammar.specs.Search.{stands, byte_from}
@@ -59,9 +56,7 @@ reference_made {src} {i} {n} p = subst (IsReference src i n) (sym p.next) (entit
 -- Where a `-->` is, two dashes are.
 pub two_dashes_begin : (src : List ℕ) (e : ℕ) → text_at "-->" src e ≡ true → text_at "--" src e ≡ true
 unfolding stands
-two_dashes_begin src e h =
-    let begins = (starts_is Decides-eqb (drop e src) (codes "-->") true (sym h)).0 refl in
-    (starts_is Decides-eqb (drop e src) (codes "--") _ refl).1 (62 ∷ drop 3 (drop e src)) begins
+two_dashes_begin src e h = grind arith
 
 pub record CommentParts (src : List ℕ) (i e j : ℕ) : Type 0 where
   pub opens : text_at "<!--" src i ≡ true

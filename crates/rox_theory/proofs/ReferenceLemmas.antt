@@ -4,7 +4,7 @@ use Rattle.std.specs.Prelude.{Ok, Option, Some, None}
 use Rattle.std.specs.Str.{IsUtf8}
 use Rattle.std.proofs.lemmas.Str.{IsCharBoundary-after_ascii}
 use Rattle.std.proofs.lemmas.List.Sums.{prefix_len_passes}
-use Rattle.std.proofs.lemmas.Bool.{eqb-true, eqb-false, eq-eqb, ne_eqb, leb-false, lt-leb, leb-true, and_parts, cases_lt, cases_eq, false≢true}
+use Rattle.std.proofs.lemmas.Bool.{eqb-true, eqb-false, eq-eqb, ne_eqb, leb-false, leb-true, and_parts, cases_lt, cases_eq, false≢true}
 use Rattle.rox_grammar.specs.Chars.{is_name_start, is_name_char, is_char}
 use Rattle.rox_grammar.specs.Runs.{run_end, begins}
 use Rattle.rox_grammar.specs.Names.{byte, slice}
@@ -26,9 +26,7 @@ bytes_end_le p src i = omega arith
 pub bytes_pass : (p : ℕ → Bool) (src : List ℕ) (i k : ℕ) → i ≤ k → k < bytes_end p src i → p (byte src k) ≡ true
 unfolding bytes_end
 bytes_pass p src i k from below =
-    let e : i + (k - i) ≡ k = omega arith in
-    let q = prefix_len_passes p (drop i src) (k - i) 0 (omega arith) in
-    subst (λ (m : ℕ). p (get_or src m 0) ≡ true) e (rw get_or-drop at q)
+    subst (λ (m : ℕ). p (get_or src m 0) ≡ true) (omega arith) (rw get_or-drop at (prefix_len_passes p (drop i src) (k - i) 0 (omega arith)))
 
 -- A number that is read is there.
 number_sound : (base : ℕ) (is : ℕ → Bool) (src : List ℕ) (i d : ℕ) (x : Reference × ℕ) → number_at base is src i d ≡ Ok x
@@ -52,11 +50,7 @@ number_sound base is src i d x h =
 -- A number that is there is read.
 number_complete : (base : ℕ) (is : ℕ → Bool) (src : List ℕ) (i d c j : ℕ) → IsNumber base is src d c j → number_at base is src i d ≡ Ok (character_of c, j)
 unfolding number_at
-number_complete base is src i d c j (digits e end some closes small is_character allowed) =
-    let apart : eqb e d ≡ false = ne_eqb e d (omega arith) in
-    let less = lt-leb (2 ^ 32) (number base (slice src d e)) small in
-    let closes' = eq-eqb _ _ closes in
-    rw (← end, apart, less, ← is_character, allowed, closes') refl
+number_complete base is src i d c j (digits e end some closes small is_character allowed) = grind arith
 
 -- What a reference is that ends at j: one to a character, or one to an entity.
 pub data IsRead (src : List ℕ) (i : ℕ) : Reference → ℕ → Type 0 where
@@ -102,8 +96,7 @@ no_hash = refl
 pub name_no_hash : (src : List ℕ) (i : ℕ) → begins is_name_start src i ≡ true → byte src i ≢ 35
 name_no_hash src i starts hash =
     let b = begins_here is_name_start src i (within src i (λ z. omega arith)) (omega arith) in
-    let f : begins is_name_start src i ≡ false = b ∙ rw hash no_hash in
-    false≢true (sym f ∙ starts)
+    false≢true (sym (b ∙ rw hash no_hash) ∙ starts)
 
 -- The decimal digits.
 digit_range : (b : ℕ) → is_digit b ≡ true → (48 ≤ b) × (b ≤ 57)
@@ -112,31 +105,19 @@ digit_range b h = let both = and_parts (leb 48 b) (leb b 57) h in (leb-true _ _ 
 -- A name that is there is read.
 pub name_complete : (src : List ℕ) (i n j : ℕ) → IsReference src i n j → reference_at src i ≡ Ok (named_or (predefined (slice src (i + 1) n)) (record { start = i + 1; end = n }), j)
 unfolding reference_at name_reference_at
-name_complete src i n j r =
-    let starts = (reference_parts r).name.starts in let l = (reference_parts r).name.longest in
-    let t = ne_eqb (byte src (i + 1)) 35 (name_no_hash src (i + 1) starts) in
-    let closes = eq-eqb _ _ (reference_parts r).closes in
-    let next = (reference_parts r).next in
-    rw (t, starts, ← l, closes, next) refl
+name_complete src i n j r = grind (arith, reference_parts, name_no_hash)
 
 -- A reference to a character is read.
 pub character_complete : (src : List ℕ) (i c j : ℕ) → IsCharacter src i c j → reference_at src i ≡ Ok (character_of c, j)
 unfolding reference_at
 character_complete src i c j (decimal opens m) =
-    let t = eq-eqb _ _ (hash_bytes src i opens).1 in
     let some = (number_parts m).some in let end = (number_parts m).end in
     let digit = digit_range (byte src (i + 2)) (bytes_pass is_digit src (i + 2) (i + 2) (omega arith) (omega arith)) in
-    let dec = ne_eqb (byte src (i + 2)) 120 (λ z. omega arith) in
-    let n = number_complete 10 is_digit src i (i + 2) c j m in
-    rw (t, dec, n) refl
+    rw ((eq-eqb _ _ (hash_bytes src i opens).1), (ne_eqb (byte src (i + 2)) 120 (λ z. omega arith)), (number_complete 10 is_digit src i (i + 2) c j m)) refl
 character_complete src i c j (hexadecimal opens m) =
     let bytes = hex_bytes src i opens in let hex = bytes.2 in
-    let t = eq-eqb _ _ bytes.1 in
-    let x = eq-eqb _ _ hex in
-    let n = number_complete 16 is_hex_digit src i (i + 3) c j m in
-    rw (t, x, n) refl
-character_complete src i c j (named n r is) =
-    name_complete src i n j r ∙ ap (λ (o : Option ℕ). Ok (named_or o (record { start = i + 1; end = n }), j)) is
+    rw ((eq-eqb _ _ bytes.1), (eq-eqb _ _ hex), (number_complete 16 is_hex_digit src i (i + 3) c j m)) refl
+character_complete src i c j (named n r is) = grind (arith, name_complete)
 
 -- And so is one to an entity.
 pub entity_complete : (src : List ℕ) (i n j : ℕ) → IsReference src i n j → predefined (slice src (i + 1) n) ≡ None → reference_at src i ≡ Ok (entity_at (record { start = i + 1; end = n }), j)
@@ -153,9 +134,7 @@ character_opens src i c j h = grind (arith, hash_bytes, hex_bytes, reference_par
 -- A stop is in no name.
 stop_no_name : (b : ℕ) → IsStop b → is_name_char b ≡ false
 unfolding is_name_char is_name_start
-stop_no_name b (inl h) = rw h refl
-stop_no_name b (inr (inl h)) = rw h refl
-stop_no_name b (inr (inr h)) = rw h refl
+stop_no_name b h = grind arith
 
 -- A stop is not a hexadecimal digit.
 stop_no_hex : (b : ℕ) → IsStop b → is_hex_digit b ≡ false

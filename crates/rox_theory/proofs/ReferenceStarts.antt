@@ -1,8 +1,6 @@
 -- How a reference to a character begins, byte by byte.
-use Rattle.std.proofs.Common.{◌≡◌, ℕ, ◌+◌, true, List, [], ◌∷◌, ◌++◌, drop, refl, sym, ap, ◌∙◌, arith}
+use Rattle.std.proofs.Common.{◌≡◌, ℕ, ◌+◌, true, List, sym, ap, ◌∙◌, arith}
 use Rattle.std.specs.Prelude.{codes}
-use Rattle.std.proofs.lemmas.Bool.Decides.{Decides-eqb}
-use Rattle.std.proofs.lemmas.Slice.Eq.{starts_is}
 use Rattle.rox_grammar.specs.Search.{stands}
 use Rattle.rox_grammar.specs.Names.{byte}
 use Rattle.rox_grammar.specs.Constructs.{text_at}
@@ -13,8 +11,7 @@ use Rattle.rox_theory.proofs.DeclarationLemmas.{stands_reads}
 -- `&#`.
 pub hash_bytes : (src : List ℕ) (i : ℕ) → text_at "&#" src i ≡ true → (byte src i ≡ 38) × (byte src (i + 1) ≡ 35)
 hash_bytes src i h =
-    let z : i + 0 ≡ i = omega arith in
-    (sym (ap (byte src) z) ∙ stands_reads (codes "&#") src i 0 h (omega arith), stands_reads (codes "&#") src i 1 h (omega arith))
+    (sym (ap (byte src) (omega arith)) ∙ stands_reads (codes "&#") src i 0 h (omega arith), stands_reads (codes "&#") src i 1 h (omega arith))
 
 pub hash_stands : (src : List ℕ) (i : ℕ) → byte src i ≡ 38 → byte src (i + 1) ≡ 35 → text_at "&#" src i ≡ true
 hash_stands src i amp hash = stands_two 38 35 src i (within src (i + 1) (λ z. omega arith)) amp hash
@@ -30,10 +27,4 @@ hex_bytes src i h =
 
 pub hex_stands : (src : List ℕ) (i : ℕ) → byte src i ≡ 38 → byte src (i + 1) ≡ 35 → byte src (i + 2) ≡ 120 → text_at "&#x" src i ≡ true
 unfolding stands
-hex_stands src i amp hash hex =
-    let third : i + 1 + 1 ≡ i + 2 = omega arith in
-    let inside = within src (i + 2) (λ z. omega arith) in
-    let hex' : byte src (i + 1 + 1) ≡ 120 = ap (byte src) third ∙ hex in
-    let e : drop i src ≡ (38 ∷ 35 ∷ 120 ∷ []) ++ drop (i + 1 + 1 + 1) src =
-    here_is src i (omega arith) ∙ rw (amp, here_is src (i + 1) (omega arith), hash, here_is src (i + 1 + 1) (omega arith), hex') refl in
-    (starts_is Decides-eqb (drop i src) (38 ∷ 35 ∷ 120 ∷ []) _ refl).1 (drop (i + 1 + 1 + 1) src) e
+hex_stands src i amp hash hex = grind (arith, within, here_is)

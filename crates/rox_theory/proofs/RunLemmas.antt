@@ -5,17 +5,14 @@ use Rattle.std.specs.List.{list_any}
 use Rattle.std.specs.Str.{IsUtf8}
 use Rattle.std.proofs.lemmas.List.{append-nil, drop_all}
 use Rattle.std.proofs.lemmas.Bool.{not-true, not_from_false, eqb-true, eqb-false, or_parts, cases_lt, cases_Bool}
-use Rattle.rox_grammar.specs.declared.fault.Word.TheVariants as word
-use Rattle.rox_grammar.specs.FixedTexts.{word_text}
 use Rattle.rox_grammar.specs.Search.{byte_from}
 use Rattle.rox_grammar.specs.Forest.{Forest, join}
 use Rattle.rox_grammar.specs.Written.{Item, Text, leaf}
 use Rattle.rox_grammar.specs.Names.{byte, slice}
 use Rattle.rox_grammar.specs.References.{IsReference, predefined, entity_reference}
-use Rattle.rox_grammar.specs.Content.{Inclusion, DataByte, is_literal, data_byte, line_ends, literals, is_verbatim, piece, Part, part_ends, as_written, from_reference, last_part, then_entity, IsCharacterData, character_data}
+use Rattle.rox_grammar.specs.Content.{Inclusion, DataByte, is_literal, data_byte, line_ends, literals, is_verbatim, piece, Part, part_ends, as_written, from_reference, last_part, then_entity, IsCharacterData}
 use Rattle.rox_grammar.specs.RunParts.{Parts}
 use Rattle.rox_grammar.specs.Entities.{Replacement}
-use Rattle.rox_reading.specs.Lexical.{has_mark, chars_up_to}
 use Rattle.rox_reading.specs.Refusals.{Refusal}
 use Rattle.rox_reading.specs.Values.{Next, at_end, opening, data_part, part_text, raw_character_data_at}
 use Rattle.rox_reading.specs.State.{State}
@@ -66,9 +63,8 @@ pub piece_read : (limit most : ℕ) (s t : State) (i j : ℕ) (ss : List DataByt
 piece_read limit most s t i j [] more fine h = grind (arith, join-nil)
 piece_read limit most s t i j (x ∷ ss) more fine h =
     let some = some_line_ends x ss in
-    let item = Text i j (line_ends (x ∷ ss)) false in
     let h' = sym (with_some limit s i j some.0 (line_ends (x ∷ ss)) some.1 some.2) ∙ h in
-    let r = item_read limit most s t j item more refl refl tt fine h' in
+    let r = item_read limit most s t j (Text i j (line_ends (x ∷ ss)) false) more refl refl tt fine h' in
     (record { done = ap (λ (s : State). s.done) r.0; stack = ap (λ (s : State). s.stack) r.0; openings_left = ap (λ (s : State). s.openings_left) r.0 }, r.1)
 
 read_piece : (limit : ℕ) (s : State) (i j : ℕ) (ss : List DataByte) → IsValidState limit (state j (join s.done (piece i j false ss)) s.stack s.openings_left)
@@ -132,8 +128,7 @@ module _ (context : Context) (O : Inclusion) (agrees : AgreesContent context.val
       bind_ok (context.opener text j t) _ _ h (λ v opened h.
       let o = agrees.sound most (slice src (p + 1) n) text j t v limits found fine opened in
       let at : v.at ≡ j = ap (λ (s : State). s.at) o.3 in
-      let moves = reference_opens src p n j r in
-      entity_stands most s t v u p n j ss o.0 o.1 part is r none o.2 o.3 (ih v (omega (arith, moves.2)) (omega arith) o.4 h))
+      entity_stands most s t v u p n j ss o.0 o.1 part is r none o.2 o.3 (ih v (omega (arith, (reference_opens src p n j r).2)) (omega arith) o.4 h))
 
   -- Parts that are read are there.
   pub run_parts_sound : (n most : ℕ) (s u : State) → context.limit ≤ most → s.at ≤ stop → stop ≤ s.at + n → IsValidState most s → data_parts context n src start stop s ≡ Ok u → PartsStand most s u
@@ -155,9 +150,7 @@ module _ (context : Context) (O : Inclusion) (agrees : AgreesContent context.val
   part_on : (n i : ℕ) (s t u : State) (bs : List ℕ) (next : Next) → s.at ≡ i → data_part context.values.main context.values.entities (stop - i) src stop i ≡ Ok (bs, next)
       → with_piece context.limit s start stop (part_text context.values.main bs) ≡ Ok t → after_part context (λ v. data_parts context n src start stop v) stop t next ≡ Ok u → data_parts context (suc n) src start stop s ≡ Ok u
   unfolding data_parts
-  part_on n i s t u bs next at read added after =
-      let read' = subst (λ (m : ℕ). data_part context.values.main context.values.entities (stop - m) src stop m ≡ Ok (bs, next)) (sym at) read in
-      rw (read', added) after
+  part_on n i s t u bs next at read added after = cc
 
   -- Nothing is left to be read.
   none_on : (s : State) → data_parts context zero src start stop s ≡ Ok (at_place stop s)
@@ -177,15 +170,13 @@ module _ (context : Context) (O : Inclusion) (agrees : AgreesContent context.val
   pub run_parts_complete : (n i b c : ℕ) (items : Forest Item) (s : State) → s.at ≡ i → s.openings_left ≡ b → stop ≤ i + n → PartsFrom i b c items → IsValidState context.limit (state stop (join s.done items) s.stack c)
       → data_parts context n src start stop s ≡ Ok (state stop (join s.done items) s.stack c)
   run_parts_complete zero i b c items s at openings_left enough (last_part _ _ ss part) fine =
-      let none = part_none i ss (omega arith) part in
-      none_on s ∙ rw (none, openings_left) (rw join-nil refl)
+      none_on s ∙ rw ((part_none i ss (omega arith) part), openings_left) (rw join-nil refl)
   run_parts_complete zero i b d items s at openings_left enough (then_entity _ p j _ c _ _ ss front more part (entity_reference n r none) opened rest) fine = grind (arith, part_le, reference_opens, parts_le)
   run_parts_complete (suc n) i b c items s at openings_left enough (last_part _ _ ss part) fine =
       let to = part_le context.values.main src stop i ss part in
       let q = run_part_complete context.values.entities src utf8 stop long closes context.values.main (stop - i) i stop ss at_end to (omega arith) part (ends_run stop refl) in
       let text = texts_line_ends context.values.main q.0 ss q.2 in
-      let fine' : IsValidState context.limit (state stop (join s.done (piece start stop false ss)) s.stack s.openings_left) = rw (marked, ← openings_left) at fine in
-      let t = read_piece context.limit s start stop ss fine' in
+      let t = read_piece context.limit s start stop ss (rw (marked, ← openings_left) at fine) in
       let done = t.2.done in let stack = t.2.stack in let openings_left' = t.2.openings_left in
       part_on n i s t.0 _ q.0 at_end at q.1 (ap (with_piece context.limit s start stop) text ∙ t.1) (rw (marked, done, stack, openings_left', openings_left) refl)
   run_parts_complete (suc n) i b d items s at openings_left enough (then_entity _ p j _ c _ _ ss front more part (entity_reference m r none) opened rest) fine =
@@ -198,14 +189,11 @@ module _ (context : Context) (O : Inclusion) (agrees : AgreesContent context.val
       let fine0 = fine_before context.limit stop j s.openings_left c (join s.done (piece start stop false ss)) front s.stack fine1 in
       let t = read_piece context.limit s start stop ss fine0 in
       let done = t.2.done in let stack = t.2.stack in let openings_left' = t.2.openings_left in
-      let opened' : O.content (slice src (p + 1) m) t.0.openings_left front c = rw (openings_left', openings_left) opened in
-      let fine1' : IsValidState context.limit (state j (join t.0.done front) t.0.stack c) = rw (done, stack) fine1 in
-      let text = agrees.complete (slice src (p + 1) m) j c front t.0 opened' fine1' in
+      let text = agrees.complete (slice src (p + 1) m) j c front t.0 (rw (openings_left', openings_left) opened) (rw (done, stack) fine1) in
       let q = run_part_complete context.values.entities src utf8 stop long closes context.values.main (stop - i) i p ss (opening text.0 j) (omega arith) (omega arith) part (ends_entity p m j text.0 r none inside text.1) in
       let spelled = texts_line_ends context.values.main q.0 ss q.2 in
       let v = state j (join t.0.done front) t.0.stack c in
-      let fine2' : IsValidState context.limit (state stop (join v.done more) v.stack d) = rw (done, stack) fine2 in
-      let ih = run_parts_complete n j c d more v refl refl (omega (arith, moves.2)) rest fine2' in
+      let ih = run_parts_complete n j c d more v refl refl (omega (arith, moves.2)) rest (rw (done, stack) fine2) in
       let last = behind_all s t.0 (piece start stop false ss) front more d done stack in
       part_on n i s t.0 _ q.0 (opening text.0 j) at q.1 (ap (with_piece context.limit s start stop) spelled ∙ t.1) (opened_on text.0 j t.0 v _ (λ w. data_parts context n src start stop w) text.2 (ih ∙ ap Ok last))
 
@@ -233,23 +221,12 @@ past_end src i past = rw (drop_all i src past) (add-zero i)
 -- The bytes of a run that are read.
 pub raw_sound : (src : List ℕ) → IsUtf8 src → (i : ℕ) (x : List ℕ × ℕ) → i < length src → byte src i ≢ 60 → raw_character_data_at src i ≡ Ok x → IsCharacterData src i x.1 × (x.0 ≡ slice src i x.1)
 unfolding raw_character_data_at
-raw_sound src utf8 i x here other h =
-    let end = byte_from (λ c. c == 60) src i in
-    let some = some_before src i here other in
-    bind_ok (chars_up_to end src i) _ _ h (λ raw read h.
-    let c = chars_sound end src i raw utf8 (from_le (λ c. c == 60) src i) read in
-    chosen (has_mark (word_text word.CDataEnd) raw.0) _ _ _ h (λ ill h. cc) (λ fine h.
-    let run : IsCharacterData src i end = character_data some refl c.0 (unmarked_run src i end refl (from_bound (λ c. c == 60) src i (omega arith)) (rw c.1 at fine)) in
-    subst (λ (y : List ℕ × ℕ). IsCharacterData src i y.1 × (y.0 ≡ slice src i y.1)) (ok_same _ _ h) (run, c.1)))
+raw_sound src utf8 i x here other h = grind (arith, some_before, chars_sound, from_le, unmarked_run, from_bound)
 
 -- And that are there.
 raw_complete : (src : List ℕ) (i j : ℕ) → IsCharacterData src i j → raw_character_data_at src i ≡ Ok (slice src i j, j)
 unfolding raw_character_data_at
-raw_complete src i j run =
-    let end = (char_data_parts run).end in
-    let c = chars_complete j src i (char_data_parts run).chars in
-    let mark = mark_behind (word_text word.CDataEnd) src i j (char_data_parts run).unmarked in
-    rw (← end, c, mark) refl
+raw_complete src i j run = grind (arith, chars_complete, mark_behind)
 
 -- A run ends in the text.
 pub run_inside : (src : List ℕ) (i j : ℕ) → IsCharacterData src i j → (j ≤ length src) × (j < length src → IsStop (byte src j))
@@ -266,8 +243,7 @@ plain_ends : (bs : List ℕ) → is_verbatim bs ≡ true → line_ends (literals
 plain_ends [] h = refl
 plain_ends (b ∷ bs) h =
     let both = or_parts (eqb b 38 || eqb b 13) (list_any ordinary bs) (not-true _ h) in
-    let here = or_parts (eqb b 38) (eqb b 13) both.0 in
-    literal_ends b (literals bs) (eqb-false _ _ here.1) ∙ ap (λ (r : List ℕ). b ∷ r) (plain_ends bs (not_from_false _ both.1))
+    literal_ends b (literals bs) (eqb-false _ _ (or_parts (eqb b 38) (eqb b 13) both.0).1) ∙ ap (λ (r : List ℕ). b ∷ r) (plain_ends bs (not_from_false _ both.1))
 
 plain_text : (main : Bool) (bs : List ℕ) → is_verbatim bs ≡ true → part_text main bs ≡ bs
 plain_text main bs h = grind (arith, plain_ends)
@@ -314,9 +290,8 @@ module _ (context : Context) (O : Inclusion) (agrees : AgreesContent context.val
       empty_part main p k ss past (as_written _ rest lt no_amp q) = absurd (omega arith)
       empty_part main p k ss past (from_reference _ n c rest r to q) = absurd (omega (arith, character_opens src k c n r))
   part_plain i j b d items run plain (then_entity _ p m _ c _ _ ss front more part (entity_reference n r none) opened rest) =
-      let inside = run_inside src i j run in
       let o = reference_opens src p n m r in
-      absurd ((plain_bytes i j p inside.0 plain (part_le context.values.main src p i ss part) (omega (arith, o.2, rest_le m c d more rest))).0 o.0)
+      absurd ((plain_bytes i j p (run_inside src i j run).0 plain (part_le context.values.main src p i ss part) (omega (arith, o.2, rest_le m c d more rest))).0 o.0)
     where
       rest_le : (k b c : ℕ) (items : Forest Item) → Parts context.values.main O src i j k b c items → k ≤ j
       rest_le k b c items (last_part _ _ ss part) = part_le context.values.main src j k ss part
@@ -332,14 +307,13 @@ module _ (context : Context) (O : Inclusion) (agrees : AgreesContent context.val
       let some = (char_data_parts raw.0).some in
       chosen (is_verbatim x.0) _ _ _ h
       (λ plain h.
-      let plain' : is_verbatim (slice src s.at x.1) ≡ true = rw (raw.1) at plain in
       bind_lifted_only (with_item context.limit s x.1 (Text s.at x.1 x.0 true)) u h (λ added.
       let r = item_read context.limit most s u x.1 (Text s.at x.1 x.0 true) limits refl refl tt fine added in (
         x.1,
         leaf (Text s.at x.1 (slice src s.at x.1) true),
         s.openings_left,
         raw.0,
-        plain_part s.at x.1 s.openings_left raw.0 plain',
+        plain_part s.at x.1 s.openings_left raw.0 (rw (raw.1) at plain),
         r.0 ∙ ap (λ (v : List ℕ). with_leaf s x.1 (Text s.at x.1 v true)) raw.1,
         r.1,
       )))
@@ -356,14 +330,7 @@ module _ (context : Context) (O : Inclusion) (agrees : AgreesContent context.val
       let raw = raw_complete src s.at j run in
       let inside = run_inside src s.at j run in
       elim (cases_Bool (is_verbatim (slice src s.at j))) as (λ z. character_data_step context src s ≡ Ok (state j (join s.done items) s.stack c)) [
-        | inl plain ↦ (
-            let p = part_plain s.at j s.openings_left c items run plain parts in
-            let items_are = p.0 in let openings_left = p.1 in
-            let same : with_leaf s j (Text s.at j (slice src s.at j) true) ≡ state j (join s.done items) s.stack c =
-            ap (λ (f : Forest Item). state j (join s.done f) s.stack s.openings_left) (sym items_are) ∙ ap (λ (n : ℕ). state j (join s.done items) s.stack n) openings_left in
-            let fine' = subst (IsValidState context.limit) (sym same) fine in
-            let one = read_item context.limit s j (Text s.at j (slice src s.at j) true) fine' in
-            rw (raw, plain, one) (ap Ok same))
+        | inl plain ↦ grind (arith, part_plain)
         | inr marked ↦ (
             let all = run_parts_complete context O agrees src utf8 s.at j inside.0 inside.1 marked (length src) s.at s.openings_left c items s refl refl (omega (arith, inside.0)) parts fine in
             rw (raw, marked) all)

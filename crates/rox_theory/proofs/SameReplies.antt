@@ -1,12 +1,11 @@
 -- What comes of a reading comes of each that is given the same answers: replies beyond those that it takes change nothing.
-use Rattle.std.proofs.Common.{◌≡◌, ℕ, zero, suc, ◌+◌, ◌==◌, ◌||◌, nat_le, nat_lt, Bool, cond, List, [], ◌∷◌, ◌++◌, length, Result, Ok, Err, refl, subst, arith}
+use Rattle.std.proofs.Common.{◌≡◌, ℕ, zero, suc, ◌+◌, ◌==◌, ◌||◌, nat_le, Bool, cond, List, [], ◌∷◌, ◌++◌, length, Result, Ok, Err, refl, subst, arith}
 use Rattle.std.specs.Prelude.{Option, slice_index}
 use Rattle.std.proofs.lemmas.Grind.{common_steps}
 use Rattle.rox_grammar.specs.declared.fault.Fault.{Fault}
 use Rattle.rox_grammar.specs.declared.fault.Fault.TheVariants as fault
 use Rattle.rox_grammar.specs.declared.fault.Due.TheVariants as due
 use Rattle.rox_grammar.specs.declared.fault.Word.TheVariants as word
-use Rattle.rox_grammar.specs.Search.{byte_from}
 use Rattle.rox_grammar.specs.FixedTexts.{at}
 use Rattle.rox_grammar.specs.Forest.{Forest, Nil}
 use Rattle.rox_grammar.specs.Written.{Item}
@@ -19,7 +18,7 @@ use Rattle.rox_reading.specs.Refusals.{Refusal, here, lifted}
 use Rattle.rox_reading.specs.Lexical.{byte_at}
 use Rattle.rox_reading.specs.State.{State}
 use Rattle.rox_reading.specs.Machine.{comment_step, instruction_step, at_place}
-use Rattle.rox_reading.specs.Doctype.{Reply, replies_of, Asks, asks_nothing, ◌>>>◌, Dtd, with_state, entity_head_at, Definition, outer, definition_at, answer_text, defined, entity_step, skipped_declaration, subset_end, subset, doctype_head_at, doctype_step}
+use Rattle.rox_reading.specs.Doctype.{Reply, replies_of, Asks, asks_nothing, ◌>>>◌, Dtd, with_state, Definition, outer, answer_text, defined, entity_step, skipped_declaration, subset_end, subset, doctype_head_at, doctype_step}
 use Rattle.rox_reading.specs.WholeText.{misc, body, finished, prolog, doctype, reading}
 use Rattle.rox_reading.specs.Answering.{left_with, having_asked, Answered, Yields, Settled, SettledWhole}
 use Rattle.rox_reading.specs.Stopping.{with_refusal, Stops}
@@ -92,24 +91,17 @@ module _ (src : List ℕ) (p : ℕ) (name : List ℕ) (d : Dtd) where
 
 entity_same : (src : List ℕ) (d : Dtd) → Same (λ rs. entity_step src (left_with rs d))
 unfolding entity_step
-entity_same src d =
-    same_behind (lifted (entity_head_at src d.state.at)) _ (λ head.
-    same_behind (lifted (definition_at head.0.parameter src head.1)) _ (λ definition. defines_same src definition.1 head.0.name d definition.0))
+entity_same src d = grind arith
 
 -- ---- the items
 
 passed_same : (i : ℕ) (src : List ℕ) (d : Dtd) → Same (λ rs. skipped_declaration i src (left_with rs d))
 unfolding skipped_declaration
-passed_same i src d =
-    let e = byte_from (λ c. c == 62) src d.state.at in
-    same_choice (nat_lt e (length src)) _ _ (same_done (record { state = at_place (e + 1) d.state; entities = d.entities; replies = [] })) (same_refused (here (fault.UnknownToken i)))
+passed_same i src d = grind arith
 
 end_same : (src : List ℕ) (d : Dtd) → Same (λ rs. subset_end src (left_with rs d))
 unfolding subset_end
-end_same src d =
-    let e = spaces_end src (d.state.at + 1) in
-    same_choice (nat_le (length src) e) _ _ (same_refused (here fault.UnexpectedEndOfStream))
-    (same_choice (slice_index src e == 62) _ _ (same_done (with_state d (at_place (e + 1) d.state))) (same_refused (here (fault.InvalidChar2 due.End (slice_index src e) e))))
+end_same src d = grind arith
 
 subset_same : (limit i n : ℕ) (src : List ℕ) (d : Dtd) → Same (λ rs. subset limit i n src (left_with rs d))
 unfolding subset

@@ -95,8 +95,7 @@ module _ (context : Context) (O : Inclusion) (values : AgreesValue context.value
       bind_ok (end_tag_at src s.at) _ _ h (λ x read h. chosen (nat_le (depth_of s.stack) context.open_around) _ _ _ h
       (λ shallow h. cc)
       (λ deep h.
-      let e = markup.end_sound src s.at x.1 x.0 means read in
-      closed_sound most s.at x.0.name x.0.name_end x.1 s.openings_left s.done s.stack t (leb-false _ _ deep) e.0 fine h))
+      closed_sound most s.at x.0.name x.0.name_end x.1 s.openings_left s.done s.stack t (leb-false _ _ deep) (markup.end_sound src s.at x.1 x.0 means read).0 fine h))
 
   comment_read : (most : ℕ) (s t : State) → context.limit ≤ most → Means src s.at a_comment → IsValidState most s → comment_step context.limit src s ≡ Ok t → Leads most s t
   unfolding comment_step
@@ -190,9 +189,8 @@ module _ (context : Context) (O : Inclusion) (values : AgreesValue context.value
   read_tag s j c tag empty is fine =
       let found = opened_found s j c tag empty fine in
       let adds = found.0 in
-      let opened = found.1 in
       let read = tags.tag_complete context.values O values src utf8 (cut_off_fault context.values.main s.stack) (scope_of s.stack) (attributes_so_far s.stack s.done) (distinct_pairs (pairs_so_far s.stack s.done)) s.at j s.openings_left c tag empty is adds.named adds.attributes adds.pairs in
-      rw (read, opened) refl
+      rw (read, found.1) refl
 
   tag_found : (s : State) (j c : ℕ) (tag : Tag) (empty : Bool) → IsTag context.values.main O src s.at j s.openings_left c empty tag → IsValidState context.limit (after s j tag empty c) → step context src s ≡ Ok (after s j tag empty c)
   tag_found s j c tag empty is fine = let p = tag_parts is in by_kind a_tag s _ (tag_kind src s.at p.begins (name_byte src (s.at + 1) tag.name tag.name_end p.is_name)) (read_tag s j c tag empty is fine)
@@ -202,10 +200,7 @@ module _ (context : Context) (O : Inclusion) (values : AgreesValue context.value
       → end_step context src (state i done (inside start tag before up) b) ≡ Ok (closed j done start tag before up b)
   unfolding end_step closed_by
   end_found i p j b start tag done before up deep end =
-      let read = markup.end_complete src i j p tag.name end in
-      let below = lt-leb (depth_of up + 1) context.open_around deep in
-      let same = names_same tag.name tag.name refl in
-      rw (read, below, same) refl
+      rw ((markup.end_complete src i j p tag.name end), (lt-leb (depth_of up + 1) context.open_around deep), (names_same tag.name tag.name refl)) refl
 
   pub step_complete : (s t : State) → OneConstruct s t → IsValidState context.limit t → step context src s ≡ Ok t
   step_complete s t (takes_run i j b c items done stack is parts) fine =

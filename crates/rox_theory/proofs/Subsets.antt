@@ -209,8 +209,7 @@ module _ (src : List ℕ) (utf8 : IsUtf8 src) where
   passed_moves i j p =
       let e = byte_from (λ c. c == 62) src i in
       let closes = p.closes in let next = p.next in
-      let is : byte src e ≡ 62 = eqb-true _ _ (from_here (λ c. c == 62) src i closes) in
-      (omega (arith, from_le (λ c. c == 62) src i), omega arith, cut_behind src e 62 j utf8 is (omega arith) (omega arith) next)
+      (omega (arith, from_le (λ c. c == 62) src i), omega arith, cut_behind src e 62 j utf8 (eqb-true _ _ (from_here (λ c. c == 62) src i closes)) (omega arith) (omega arith) next)
 
   -- A turn that is a declaration of an entity.
   entity_front : (i j : ℕ) (first : List Asked) (es : List Entity) → IsCharBoundary src i → IsEntityDeclaration src (spaces_end src i) j first es → Fronts src i j Nil first es
@@ -245,12 +244,11 @@ module _ (src : List ℕ) (utf8 : IsUtf8 src) where
     by_turn r (turn_entity first e is h) =
         let o : EntityRead src (spaced src d) first e = subst (EntityOutcome src (spaced src d)) h (entity_outcome src utf8 (spaced src d) is texts) in
         let moves = entity_moves src utf8 i e.state.at first o.es o.is in
-        let front = entity_front d.state.at e.state.at first o.es cut o.is in
         let has = once_later d.state.at first cut (declared_asks src utf8 i e.state.at first o.es o.is) in
         let state_is : e.state ≡ state e.state.at (join d.state.done Nil) d.state.stack d.state.openings_left = o.state_is ∙ rw join-nil refl in
         let fine' : IsValidState most e.state = subst (IsValidState most) (sym o.state_is) (fine_there most d.state (at_place e.state.at d.state) refl refl fine) in
         let rest = go e moves.3 fine' o.texts (omega (arith, enough, far, moves.1)) in
-        outcome_front most src d e Nil first o.es front state_is o.entities_are has (subset limit start n src e) rest
+        outcome_front most src d e Nil first o.es (entity_front d.state.at e.state.at first o.es cut o.is) state_is o.entities_are has (subset limit start n src e) rest
     by_turn r (turn_refused first e is h) =
         refused_later first e (subst (EntityOutcome src (spaced src d)) h (entity_outcome src utf8 (spaced src d) is texts))
     by_turn r (turn_item j item t is one) =
@@ -258,20 +256,17 @@ module _ (src : List ℕ) (utf8 : IsUtf8 src) where
         let p = misc_plain src utf8 i j item is in
         let read = item_read limit most (spaced src d).state t j item limits p.0 p.1 (p.2 (scope_in (scope_of (spaced src d).state.stack) item)) (fine_there most d.state (spaced src d).state refl refl fine) one in
         let there : t.at ≡ j = ap (λ (s : State). s.at) read.0 in
-        let next = ends_cut src j utf8 (misc_ends src i j item is) in
         let front = item_front d.state.at j item cut is in
         let front' : Fronts src d.state.at t.at (leaf item) [] [] = subst (λ (k : ℕ). Fronts src d.state.at k (leaf item) [] []) (sym there) front in
         let moves = misc_moves src utf8 i j item is in
         let state_is : t ≡ state t.at (join d.state.done (leaf item)) d.state.stack d.state.openings_left = read.0 ∙ ap (λ (k : ℕ). state k (join d.state.done (leaf item)) d.state.stack d.state.openings_left) (sym there) in
-        let rest = go e (subst (IsCharBoundary src) (sym there) next) read.1 texts (omega (arith, enough, far, moves, there)) in
+        let rest = go e (subst (IsCharBoundary src) (sym there) (ends_cut src j utf8 (misc_ends src i j item is))) read.1 texts (omega (arith, enough, far, moves, there)) in
         outcome_front most src d e (leaf item) [] [] front' state_is (sym (append-nil d.entities)) not_yet (subset limit start n src e) rest
     by_turn r (turn_passed j is) =
         let e = with_state d (at_place j d.state) in
         let moves = passed_moves i j is in
-        let front = passed_front d.state.at j cut is in
-        let state_is : at_place j d.state ≡ state j (join d.state.done Nil) d.state.stack d.state.openings_left = rw join-nil refl in
         let rest = go e moves.2 (fine_there most d.state (at_place j d.state) refl refl fine) texts (omega (arith, enough, far, moves.0)) in
-        outcome_front most src d e Nil [] [] front state_is (sym (append-nil d.entities)) not_yet (subset limit start n src e) rest
+        outcome_front most src d e Nil [] [] (passed_front d.state.at j cut is) (rw join-nil refl) (sym (append-nil d.entities)) not_yet (subset limit start n src e) rest
     by_turn r (turn_closed bracket closes) =
         let j = spaces_end src (i + 1) + 1 in (
           not_yet,

@@ -1,13 +1,12 @@
 -- The items of a document type declaration that are there are read, whatever replies follow those that they take.
-use Rattle.std.proofs.Common.{◌≡◌, ◌≢◌, ℕ, zero, suc, ◌+◌, ◌<◌, ◌≤◌, ◌==◌, ◌||◌, true, false, List, [], ◌++◌, length, Ok, refl, sym, ◌∙◌, subst, arith, inl, inr, append_assoc}
+use Rattle.std.proofs.Common.{◌≡◌, ◌≢◌, ℕ, zero, suc, ◌+◌, ◌<◌, ◌≤◌, ◌||◌, true, false, List, [], ◌++◌, length, Ok, refl, sym, ◌∙◌, subst, arith, inl, inr, append_assoc}
 use Rattle.std.specs.Str.{IsUtf8}
 use Rattle.std.proofs.lemmas.List.{append-nil}
-use Rattle.std.proofs.lemmas.Bool.{lt-leb, or_left, or_right, or_from, false_from_ne_true}
+use Rattle.std.proofs.lemmas.Bool.{or_left, or_right, or_from, false_from_ne_true}
 use Rattle.rox_grammar.specs.declared.fault.Word.{Word}
 use Rattle.rox_grammar.specs.declared.fault.Word.TheVariants as word
 use Rattle.rox_grammar.specs.FixedTexts.{word_text, at}
 use Rattle.rox_grammar.specs.Chars.{is_space}
-use Rattle.rox_grammar.specs.Search.{byte_from}
 use Rattle.rox_grammar.specs.Forest.{Forest, join}
 use Rattle.rox_grammar.specs.Written.{Item, leaf}
 use Rattle.rox_grammar.specs.Names.{byte, spaces_end}
@@ -56,8 +55,7 @@ byte_apart v src i some apart =
 word_byte : (w : Word) (src : List ℕ) (i b : ℕ) → 0 < length (word_text w) → byte (word_text w) 0 ≡ b → at w src i ≡ true → byte src i ≡ b
 word_byte w src i b some first is =
     let zero : i + 0 ≡ i = omega arith in
-    let e : byte src (i + 0) ≡ byte (word_text w) 0 = stands_reads (word_text w) src i 0 is some in
-    rw zero at e ∙ first
+    rw zero at (stands_reads (word_text w) src i 0 is some) ∙ first
 
 module _ (src : List ℕ) (utf8 : IsUtf8 src) where
   -- A row of items goes forward.
@@ -75,11 +73,7 @@ module _ (src : List ℕ) (utf8 : IsUtf8 src) where
     -- White space in front is passed.
     space_step : (n i : ℕ) (done : Forest Item) (es : List Entity) (rs : List Reply) → is_space (byte src i) ≡ true → i + 1 < length src → here_run (suc n) i done es rs ≡ here_run (suc n) (i + 1) done es rs
     unfolding subset
-    space_step n i done es rs is inside =
-        let a = lt-leb (length src) i (omega arith) in
-        let b = lt-leb (length src) (i + 1) inside in
-        let e = spaces_on src i is in
-        rw (a, b, e) refl
+    space_step n i done es rs is inside = grind (arith, spaces_on)
 
     -- The end of the declaration.
     end_read : (n i : ℕ) (done : Forest Item) (es : List Entity) → byte src i ≡ 93 → byte src (spaces_end src (i + 1)) ≡ 62
@@ -102,29 +96,21 @@ module _ (src : List ℕ) (utf8 : IsUtf8 src) where
     unfolding comment_step instruction_step
     item_read n i j item done es (comment _ c _ is) fine =
         let inside = misc_within src utf8 i j item (comment i c j is) in
-        let bytes = comment_bytes src i (comment_parts is).opens in
-        let e : spaces_end src i ≡ i = no_spaces src i bytes.1 in
+        let e : spaces_end src i ≡ i = no_spaces src i (comment_bytes src i (comment_parts is).opens).1 in
         let no_entity : at word.EntityStart src (spaces_end src i) ≡ false = rw e (words_apart word.EntityStart word.CommentStart src i 2 (omega arith) (omega arith) (λ h. omega arith) (comment_parts is).opens) in
-        let opens : at word.CommentStart src (spaces_end src i) ≡ true = rw e (comment_parts is).opens in
         let s = state i done stack openings_left in
-        let one = read_item limit s j item fine in
-        let step : comment_step limit src s ≡ Ok (with_leaf s j item) = rw (comment_complete src i c j is) one in
-        let step' : comment_step limit src (state (spaces_end src i) done stack openings_left) ≡ Ok (with_leaf s j item) = rw e step in
+        let step : comment_step limit src s ≡ Ok (with_leaf s j item) = rw (comment_complete src i c j is) (read_item limit s j item fine) in
         turn.turn_comment (here_run (suc n) i done es) [] limit start (suc n) n src (here_at i done stack openings_left es) (none_yet limit start (suc n) src (here_at i done stack openings_left es)) refl inside no_entity
-        (with_leaf s j item) opens step'
+        (with_leaf s j item) (rw e (comment_parts is).opens) (rw e step)
     item_read n i j item done es (instruction _ t c _ is) fine =
         let inside = misc_within src utf8 i j item (instruction i t c j is) in
-        let bytes = instruction_bytes src i (pi_parts is).opens in
-        let e : spaces_end src i ≡ i = no_spaces src i bytes.1 in
+        let e : spaces_end src i ≡ i = no_spaces src i (instruction_bytes src i (pi_parts is).opens).1 in
         let no_entity : at word.EntityStart src (spaces_end src i) ≡ false = rw e (words_apart word.EntityStart word.PIStart src i 1 (omega arith) (omega arith) (λ h. omega arith) (pi_parts is).opens) in
         let no_comment : at word.CommentStart src (spaces_end src i) ≡ false = rw e (words_apart word.CommentStart word.PIStart src i 1 (omega arith) (omega arith) (λ h. omega arith) (pi_parts is).opens) in
-        let opens : at word.PIStart src (spaces_end src i) ≡ true = rw e (pi_parts is).opens in
         let s = state i done stack openings_left in
-        let one = read_item limit s j item fine in
-        let step : instruction_step limit src s ≡ Ok (with_leaf s j item) = rw (instruction_complete src i t c j is) one in
-        let step' : instruction_step limit src (state (spaces_end src i) done stack openings_left) ≡ Ok (with_leaf s j item) = rw e step in
+        let step : instruction_step limit src s ≡ Ok (with_leaf s j item) = rw (instruction_complete src i t c j is) (read_item limit s j item fine) in
         turn.turn_instruction (here_run (suc n) i done es) [] limit start (suc n) n src (here_at i done stack openings_left es) (none_yet limit start (suc n) src (here_at i done stack openings_left es)) refl inside no_entity no_comment
-        (with_leaf s j item) opens step'
+        (with_leaf s j item) (rw e (pi_parts is).opens) (rw e step)
 
     -- A declaration that is passed over: its word, which is none of those before it.
     passed_by : (w : Word) (n i j : ℕ) (done : Forest Item) (es : List Entity) (p : IsPassedOver src i j) → at w src i ≡ true → at word.EntityStart src i ≡ false → at word.CommentStart src i ≡ false
@@ -134,15 +120,9 @@ module _ (src : List ℕ) (utf8 : IsUtf8 src) where
         let here = word_byte w src i 60 some first opens in
         let inside = within src i (λ z. omega arith) in
         let e : spaces_end src i ≡ i = no_spaces src i here in
-        let closes : byte_from (λ c. c == 62) src (spaces_end src i) < length src = rw e p.closes in
-        let next : byte_from (λ c. c == 62) src (spaces_end src i) + 1 ≡ j = rw e (sym p.next) in
-        let no_entity' : at word.EntityStart src (spaces_end src i) ≡ false = rw e no_entity in
-        let no_comment' : at word.CommentStart src (spaces_end src i) ≡ false = rw e no_comment in
-        let no_instruction' : at word.PIStart src (spaces_end src i) ≡ false = rw e no_instruction in
-        let skipped' : (at word.ElementStart src (spaces_end src i) || (at word.AttlistStart src (spaces_end src i) || at word.NotationStart src (spaces_end src i))) ≡ true = rw e skipped in
         let r = turn.turn_passed (here_run (suc n) i done es) [] limit start (suc n) n src (here_at i done stack openings_left es) (none_yet limit start (suc n) src (here_at i done stack openings_left es)) refl inside
-        no_entity' no_comment' no_instruction' skipped' closes in
-        subst (λ (k : ℕ). Continues (here_run (suc n) i done es) [] limit start n src (here_at k done stack openings_left es)) next r
+        (rw e no_entity) (rw e no_comment) (rw e no_instruction) (rw e skipped) (rw e p.closes) in
+        subst (λ (k : ℕ). Continues (here_run (suc n) i done es) [] limit start n src (here_at k done stack openings_left es)) (rw e (sym p.next)) r
 
     passed_read : (n i j : ℕ) (done : Forest Item) (es : List Entity) → IsPassedOver src i j → Continues (here_run (suc n) i done es) [] limit start n src (here_at j done stack openings_left es)
     passed_read n i j done es p = elim p.opens as (λ _. Continues (here_run (suc n) i done es) [] limit start n src (here_at j done stack openings_left es)) [
@@ -168,10 +148,9 @@ module _ (src : List ℕ) (utf8 : IsUtf8 src) where
         let inside = within src i (λ z. omega arith) in
         let e : spaces_end src i ≡ i = no_spaces src i here in
         let opens' : at word.EntityStart src (spaces_end src i) ≡ true = rw e opens in
-        let is' : IsEntityDeclaration src (spaces_end src i) j first one = rw e is in
         let d = here_at i done stack openings_left es in
         turn.turn_entity (here_run (suc n) i done es) [] limit start (suc n) n src d (none_yet limit start (suc n) src d) refl inside first (here_at j done stack openings_left (es ++ one)) opens'
-        (entity_complete src utf8 (spaced src d) j first one is')
+        (entity_complete src utf8 (spaced src d) j first one (rw e is))
 
     -- The items and the end of the declaration.
     pub subset_complete : (n i k : ℕ) (items done : Forest Item) (asked : List Asked) (more es : List Entity) → Subset src i k items asked more → byte src k ≡ 93 → byte src (spaces_end src (k + 1)) ≡ 62
@@ -186,21 +165,18 @@ module _ (src : List ℕ) (utf8 : IsUtf8 src) where
         λ rs. space_step n i done es _ is (omega arith) ∙ next rs
     subset_complete (suc n) i k items done asked more es (an_item _ j _ item others _ _ is rest) bracket closes fine enough =
         let all : IsValidState limit (state k (join (join done (leaf item)) others) stack openings_left) = subst (λ (f : Forest Item). IsValidState limit (state k f stack openings_left)) (sym (join_assoc done (leaf item) others)) fine in
-        let moves = misc_moves src utf8 i j item is in
         let one = item_read n i j item done es is (fine_before limit j k openings_left openings_left (join done (leaf item)) others stack all) in
-        let next = subset_complete n j k others (join done (leaf item)) asked more es rest bracket closes all (omega (arith, enough, moves)) in
+        let next = subset_complete n j k others (join done (leaf item)) asked more es rest bracket closes all (omega (arith, enough, (misc_moves src utf8 i j item is))) in
         let whole = continued (here_run (suc n) i done es) [] asked limit start n src (here_at j (join done (leaf item)) stack openings_left es)
         (here_at (spaces_end src (k + 1) + 1) (join (join done (leaf item)) others) stack openings_left (es ++ more)) one next in
         subst (λ (f : Forest Item). Answered (here_run (suc n) i done es) asked (here_at (spaces_end src (k + 1) + 1) f stack openings_left (es ++ more))) (join_assoc done (leaf item) others) whole
     subset_complete (suc n) i k items done asked more es (skipped_declaration _ _ _ _ _ opens ends rest) bracket closes fine enough =
         let j = passed_end src i in
         let is = passed_there opens ends in
-        let moves = (passed_moves src utf8 i j is).0 in
-        let next = subset_complete n j k items done asked more es rest bracket closes fine (omega (arith, enough, moves)) in
+        let next = subset_complete n j k items done asked more es rest bracket closes fine (omega (arith, enough, ((passed_moves src utf8 i j is).0))) in
         continued (here_run (suc n) i done es) [] asked limit start n src (here_at j done stack openings_left es) (here_at (spaces_end src (k + 1) + 1) (join done items) stack openings_left (es ++ more)) (passed_read n i j done es is) next
     subset_complete (suc n) i k items done asked more es (an_entity _ j _ _ first later one others is rest) bracket closes fine enough =
-        let moves = (entity_moves src utf8 i j first one is).1 in
-        let next = subset_complete n j k items done later others (es ++ one) rest bracket closes fine (omega (arith, enough, moves)) in
+        let next = subset_complete n j k items done later others (es ++ one) rest bracket closes fine (omega (arith, enough, ((entity_moves src utf8 i j first one is).1))) in
         let whole = continued (here_run (suc n) i done es) first later limit start n src (here_at j done stack openings_left (es ++ one))
         (here_at (spaces_end src (k + 1) + 1) (join done items) stack openings_left ((es ++ one) ++ others)) (entity_read n i j first one es done is) next in
         subst (λ (l : List Entity). Answered (here_run (suc n) i done es) (first ++ later) (here_at (spaces_end src (k + 1) + 1) (join done items) stack openings_left l)) (append_assoc es one others) whole

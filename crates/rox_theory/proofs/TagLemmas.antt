@@ -1,8 +1,8 @@
 -- Start tags: what is read is there, and what is there is read.
-use Rattle.std.proofs.Common.{◌≡◌, ℕ, zero, suc, ◌+◌, ◌<◌, ◌≤◌, Bool, true, false, leb, ltb, List, [], ◌∷◌, length, refl, ap, subst, arith}
+use Rattle.std.proofs.Common.{◌≡◌, ℕ, zero, suc, ◌+◌, ◌<◌, ◌≤◌, Bool, true, false, leb, List, [], ◌∷◌, length, refl, ap, subst, arith}
 use Rattle.std.specs.Prelude.{Result, Ok, bytes_eq}
 use Rattle.std.specs.Str.{IsUtf8}
-use Rattle.std.proofs.lemmas.Bool.{lt-leb, le-ltb, ltb-false}
+use Rattle.std.proofs.lemmas.Bool.{lt-leb}
 use Rattle.rox_grammar.specs.declared.fault.Fault.{Fault}
 use Rattle.rox_grammar.specs.declared.fault.Word.TheVariants as word
 use Rattle.rox_grammar.specs.FixedTexts.{word_text}
@@ -18,7 +18,7 @@ use Rattle.rox_grammar.specs.Counts.{listable, with_new}
 use Rattle.rox_reading.specs.Lexical.{qname_at}
 use Rattle.rox_reading.specs.Markup.{TagItem, more, opened, closed, tag_item_at}
 use Rattle.rox_reading.specs.Values.{value_at}
-use Rattle.rox_reading.specs.Tags.{Values, TagSoFar, TagRest, TagRead, attribute_with, taken, after_tag_item, attributes_at, names_tested, tag_tested, tag_at}
+use Rattle.rox_reading.specs.Tags.{Values, TagSoFar, TagRest, TagRead, attribute_with, taken, after_tag_item, attributes_at, tag_tested, tag_at}
 use Rattle.rox_reading.specs.Refusals.{Refusal}
 use Rattle.rox_theory.specs.Openers.{AgreesValue}
 use Rattle.rox_theory.proofs.Basics.{ok_same, bind_ok, bind_lifted, chosen, within, run_end_le}
@@ -34,19 +34,13 @@ ends_inside src i empty j h = grind (arith, within, run_end_le)
 tested_sound : (scope : List NamespaceDecl) (count i : ℕ) (name : Name) (as' : List Attribute) (x : Unit {0}) → tag_tested scope count i name as' ≡ Ok x
     → (count + length as' ≤ most_attributes) × DistinctBehind scope [] as' × (may_name scope name ≡ true)
 unfolding tag_tested
-tested_sound scope count i name as' x h =
-    chosen (ltb most_attributes (count + length as')) _ _ _ h (λ many h. cc) (λ few h.
-    bind_ok (names_tested scope [] as') _ _ h (λ u names h.
-    chosen (may_name scope name) _ _ _ h (λ may h. (ltb-false _ _ few, names_sound scope [] as' u names, may)) (λ unknown h. cc)))
+tested_sound scope count i name as' x h = grind (arith, names_sound)
 
 -- A tag with distinct names within the limit passes the tests.
 tested_complete : (scope : List NamespaceDecl) (count i : ℕ) (name : Name) (as' : List Attribute) → count + length as' ≤ most_attributes → DistinctBehind scope [] as' → may_name scope name ≡ true
     → tag_tested scope count i name as' ≡ Ok tt
 unfolding tag_tested
-tested_complete scope count i name as' few distinct may =
-    let l = le-ltb most_attributes (count + length as') few in
-    let n = names_complete scope [] as' distinct in
-    rw (l, n, may) refl
+tested_complete scope count i name as' few distinct may = grind (arith, names_complete)
 
 -- Nothing yet.
 abbrev pub none_yet : TagSoFar
@@ -102,31 +96,21 @@ module _ (context : Values) (O : Inclusion) (agrees : AgreesValue context.entiti
       → attributes_at n context cut known src i b h ≡ Ok (record { held = held; empty = empty; openings_left = c }, j)
   unfolding attributes_at
   rest_complete zero cut known i last b c written empty j h held enough (no_more _ _) ends is = absurd (omega (arith, (ends_inside src last empty j ends).0))
-  rest_complete zero cut known i last b c written empty j h held enough (one_more _ k _ _ d _ a rest some first p) ends is =
-      let one = attribute_le context O agrees src utf8 (spaces_end src i) k b d a first in
-      let more = attributes_le k last d c rest p in
-      absurd (omega (arith, (ends_inside src last empty j ends).0))
+  rest_complete zero cut known i last b c written empty j h held enough (one_more _ k _ _ d _ a rest some first p) ends is = grind (arith, attribute_le, attributes_le, ends_inside)
   rest_complete (suc n) cut known i last b c written true j h held enough (no_more _ _) ends is =
-      let inside = lt-leb (length src) i (ends_inside src i true j ends).0 in
       let t = end_complete src i true j ends in
-      rw (inside, t) (ap (λ (k : TagSoFar). Ok (record { held = k; empty = true; openings_left = b }, j)) (ok_same _ _ is))
+      rw ((lt-leb (length src) i (ends_inside src i true j ends).0), t) (ap (λ (k : TagSoFar). Ok (record { held = k; empty = true; openings_left = b }, j)) (ok_same _ _ is))
   rest_complete (suc n) cut known i last b c written false j h held enough (no_more _ _) ends is =
-      let inside = lt-leb (length src) i (ends_inside src i false j ends).0 in
       let t = end_complete src i false j ends in
-      rw (inside, t) (ap (λ (k : TagSoFar). Ok (record { held = k; empty = false; openings_left = b }, j)) (ok_same _ _ is))
+      rw ((lt-leb (length src) i (ends_inside src i false j ends).0), t) (ap (λ (k : TagSoFar). Ok (record { held = k; empty = false; openings_left = b }, j)) (ok_same _ _ is))
   rest_complete (suc n) cut known i last b c written empty j h held enough (one_more _ k _ _ d _ a rest some first p) ends is =
       let one = attribute_le context O agrees src utf8 (spaces_end src i) k b d a first in
       let further = attributes_le k last d c rest p in
       let inside = lt-leb (length src) i (omega (arith, (ends_inside src last empty j ends).0)) in
       let read = attribute_complete context O agrees src utf8 (spaces_end src i) k b d a first in
-      let raw = read.0 in
-      let t = more_complete src i k raw some read.2 in
-      let value = read.3 in
-      let a_is = read.4 in
       bind_ok (taken known a h) (λ g. all_taken known rest g) held is (λ g one_taken is.
       let ih = rest_complete n cut known k last d c rest empty j g held (omega arith) p ends is in
-      let taken' : taken known (attribute_with raw read.1) h ≡ Ok g = rw a_is at one_taken in
-      rw (inside, t, value, taken') ih)
+      rw (inside, (more_complete src i k read.0 some read.2), read.3, (rw read.4 at one_taken)) ih)
 
   -- A tag that is read is there, well named and within the limits.
   pub tag_sound : (cut : Fault) (above : List NamespaceDecl) (count : ℕ) (known : List NamespaceDecl) (i j b : ℕ) (x : TagRead) → byte src i ≡ 60
@@ -141,7 +125,6 @@ module _ (context : Values) (O : Inclusion) (agrees : AgreesValue context.entiti
       let r = rest_sound (length src) cut known n.1 b none_yet x rest in
       let all = taken_sound known r.0 none_yet x.0.held r.4 in
       let fine = tested_sound (listed above x.0.held.own) count i n.0 x.0.held.attributes u tested in
-      let declarable = rw (← all.own) at all.declarable in
       let pairs = all.pairs few in
       let name_le = qname_le src (i + 1) n.0 n.1 name in
       let attributes_le' = attributes_le n.1 r.1 b x.0.openings_left r.0 r.2 in
@@ -149,7 +132,7 @@ module _ (context : Values) (O : Inclusion) (agrees : AgreesValue context.entiti
       subst (λ (z : TagRead × ℕ). TagStands above count known i z.1 b z.0 × (i < z.1)) (ok_same _ _ h) (
         record {
           is_tag = tag_of (record { begins = begins; is_name = name; written = r.0; last = r.1; attributes = r.2; ends = r.3; declares = all.own; has = all.attributes });
-          well_named = (free, are_declarable x.0.held.own declarable, are_distinct (listed above x.0.held.own) x.0.held.attributes fine.1, fine.2);
+          well_named = (free, are_declarable x.0.held.own (rw (← all.own) at all.declarable), are_distinct (listed above x.0.held.own) x.0.held.attributes fine.1, fine.2);
           attributes = fine.0;
           pairs = pairs;
         },
@@ -163,12 +146,9 @@ module _ (context : Values) (O : Inclusion) (agrees : AgreesValue context.entiti
   unfolding tag_at
   tag_complete cut above count known i j b c t empty is_tag well few pairs =
       let tag = tag_parts is_tag in
-      let name = qname_complete src (i + 1) t.name t.name_end tag.is_name in
-      let free = well.0 in
       let own = tag.declares in
-      let has = tag.has in
       let all = taken_complete known tag.written none_yet (rw own at (declarable_behind t.declarations well.1)) (rw own at pairs) in
-      let all' : all_taken known tag.written none_yet ≡ Ok (record { own = t.declarations; attributes = t.attributes }) = rw (← own, ← has) at all in
+      let all' : all_taken known tag.written none_yet ≡ Ok (record { own = t.declarations; attributes = t.attributes }) = rw (← own, ← tag.has) at all in
       let rest = rest_complete (length src) cut known t.name_end tag.last b c tag.written empty j none_yet (record { own = t.declarations; attributes = t.attributes }) (omega arith) tag.attributes tag.ends all' in
       let tested = tested_complete (listed above t.declarations) count i t.name t.attributes few (distinct_behind (listed above t.declarations) t.attributes well.2) well.3 in
-      rw (name, free, rest, tested) refl
+      rw ((qname_complete src (i + 1) t.name t.name_end tag.is_name), well.0, rest, tested) refl

@@ -132,14 +132,13 @@ module _ (es : List Entity) (src : List ℕ) (utf8 : IsUtf8 src) (stop : ℕ) (l
       (λ k from lt. (stays (byte src k) (next_before src stop long is_special i k (omega arith) from lt), no_tag refl k from (omega arith))) (λ z. absurd (false≢true (sym z))))
   stretch_sound false i x below plain no_tag h =
       let j = next_at src stop stops i in
-      let bound = next_bound src stop long stops i (omega arith) in
       bind_ok (chars_up_to j src i) _ _ h (λ raw read h. chosen (eqb (byte (take stop src) j) 60) _ _ _ h
       (λ tag h. cc)
       (λ fine h.
       let c = chars_sound j src i raw utf8 (from_le stops (take stop src) i) read in
       let e : ◌≡◌ {A = Bit × ℕ} (bytes_of (slice src i j), j) x = ap (λ (bs : List ℕ). (bytes_of bs, j)) (sym c.1) ∙ ok_same _ _ h in
       subst (λ (y : Bit × ℕ). ValueBit false es src stop i y.0 y.1) e
-      (bit_stretch i j (some fine) bound (next_cut stops stops_ascii i (omega arith))
+      (bit_stretch i j (some fine) (next_bound src stop long stops i (omega arith)) (next_cut stops stops_ascii i (omega arith))
       (λ k from lt. let both = or_parts (is_special (byte src k)) (eqb (byte src k) 60) (next_before src stop long stops i k (omega arith) from lt) in (stays (byte src k) both.0, eqb-false _ _ both.1)) (λ z. c.0))))
     where
       some : eqb (byte (take stop src) (next_at src stop stops i)) 60 ≡ false → i < next_at src stop stops i
@@ -172,9 +171,7 @@ module _ (es : List Entity) (src : List ℕ) (utf8 : IsUtf8 src) (stop : ℕ) (l
   -- A CR before a LF is read to nothing.
   line_end_read : (main : Bool) (i : ℕ) → i + 1 < stop → byte src i ≡ 13 → byte src (i + 1) ≡ 10 → value_bit_at main es src stop i ≡ Ok (bytes_of [], i + 1)
   unfolding value_bit_at
-  line_end_read main i below cr lf =
-      let t : byte (take stop src) (i + 1) ≡ byte src (i + 1) = get_or-take stop src (i + 1) 0 below in
-      rw (t, cr, lf) refl
+  line_end_read main i below cr lf = grind (arith, get_or-take)
 
   -- White space is read to a space.
   white_read : (main : Bool) (i : ℕ) → i < stop → IsWhite src stop i → value_bit_at main es src stop i ≡ Ok (bytes_of (32 ∷ []), i + 1)
@@ -184,10 +181,7 @@ module _ (es : List Entity) (src : List ℕ) (utf8 : IsUtf8 src) (stop : ℕ) (l
   white_read main i below (inr (inr (cr, inl end))) =
       let t : byte (take stop src) (i + 1) ≡ 0 = get_or_past (take stop src) (i + 1) 0 (omega (arith, length-take-le stop src long)) in
       rw (t, cr) refl
-  white_read main i below (inr (inr (cr, inr apart))) =
-      let t : eqb (byte (take stop src) (i + 1)) 10 ≡ false = elim (cases_Bool (eqb (byte (take stop src) (i + 1)) 10)) as (λ s. eqb (byte (take stop src) (i + 1)) 10 ≡ false)
-      [ inl lf ↦ absurd (apart (follows src stop long (i + 1) lf).1) | inr f ↦ f ] in
-      rw (t, cr) refl
+  white_read main i below (inr (inr (cr, inr apart))) = grind (arith, follows)
 
   -- A character is let through.
   tested_character : (main : Bool) (i x : ℕ) → (main ≡ true) ⊎ (x ≢ 60) → tested_bit main i (character_of x) (reference_bit es src i (character_of x)) ≡ Ok (bytes_of (value_bytes main x))
@@ -197,10 +191,7 @@ module _ (es : List Entity) (src : List ℕ) (utf8 : IsUtf8 src) (stop : ℕ) (l
   character_read : (main : Bool) (i x m : ℕ) → IsCharacter src i x m → (main ≡ true) ⊎ (x ≢ 60) → value_bit_at main es src stop i ≡ Ok (bytes_of (value_bytes main x), m)
   unfolding value_bit_at value_reference_at
   character_read main i x m r any =
-      let amp = eq-eqb _ _ (character_opens src i x m r).0 in
-      let one = character_complete src i x m r in
-      let tested = tested_character main i x any in
-      rw (amp, one, tested) refl
+      rw ((eq-eqb _ _ (character_opens src i x m r).0), (character_complete src i x m r), (tested_character main i x any)) refl
 
   -- An entity is let through.
   tested_entity : (main : Bool) (i n : ℕ) (t : Replacement) → text_of es (slice src (i + 1) n) ≡ Some t
@@ -210,11 +201,7 @@ module _ (es : List Entity) (src : List ℕ) (utf8 : IsUtf8 src) (stop : ℕ) (l
   -- A reference to an entity is read.
   entity_read : (main : Bool) (i n k : ℕ) (t : Replacement) → IsReference src i n k → predefined (slice src (i + 1) n) ≡ None → text_of es (slice src (i + 1) n) ≡ Some t → value_bit_at main es src stop i ≡ Ok (opens t, k)
   unfolding value_bit_at value_reference_at
-  entity_read main i n k t r none is =
-      let amp = eq-eqb _ _ (reference_opens src i n k r).0 in
-      let one = entity_complete src i n k r none in
-      let tested = tested_entity main i n t is in
-      rw (amp, one, tested) refl
+  entity_read main i n k t r none is = grind (arith, entity_complete)
 
   -- Where a stretch ends: within a replacement text at a `<` too.
   abbrev stretch_end : (main : Bool) → ℕ → ℕ
@@ -230,19 +217,13 @@ module _ (es : List Entity) (src : List ℕ) (utf8 : IsUtf8 src) (stop : ℕ) (l
   stretch_read : (main : Bool) (i : ℕ) → i < stop → Stays (byte src i) → byte src i ≢ 60 → (main ≡ false → AreChars src i (stretch_end main i)) → (stretch_end main i < stop → byte src (stretch_end main i) ≢ 60)
       → value_bit_at main es src stop i ≡ Ok (bytes_of (slice src i (stretch_end main i)), stretch_end main i)
   unfolding value_bit_at
-  stretch_read true i below s tag chars no_tag =
-      let amp = ne_eqb (byte src i) 38 s.0 in
-      let plain = not_special (byte src i) s in
-      rw (plain, amp) refl
+  stretch_read true i below s tag chars no_tag = grind arith
   stretch_read false i below s tag chars no_tag =
-      let amp = ne_eqb (byte src i) 38 s.0 in
-      let plain = not_special (byte src i) s in
-      let read = chars_complete (next_at src stop stops i) src i (chars refl) in
       let fine : eqb (byte (take stop src) (next_at src stop stops i)) 60 ≡ false = elim (cases_lt (next_at src stop stops i) stop) as (λ s. eqb (byte (take stop src) (next_at src stop stops i)) 60 ≡ false) [
         | inl l ↦ (let t : byte (take stop src) (next_at src stop stops i) ≡ byte src (next_at src stop stops i) = get_or-take stop src (next_at src stop stops i) 0 l in rw t (ne_eqb _ _ (no_tag l)))
         | inr g ↦ (let t : byte (take stop src) (next_at src stop stops i) ≡ 0 = get_or_past (take stop src) (next_at src stop stops i) 0 (omega (arith, length-take-le stop src long)) in rw t refl)
       ] in
-      rw (plain, amp, read, fine) refl
+      rw ((not_special (byte src i) s), (ne_eqb (byte src i) 38 s.0), (chars_complete (next_at src stop stops i) src i (chars refl)), fine) refl
 
   -- ---- values
 
@@ -277,8 +258,7 @@ module _ (es : List Entity) (src : List ℕ) (utf8 : IsUtf8 src) (stop : ℕ) (l
         let e : i ≡ j = omega arith in
         (v, subst (λ (m : ℕ). ValueFrom m b c v) e p, rw (e, slice_nil src j) refl)
     stretch_off (suc d) i j b c v to inside plain p =
-        let s = plain i (omega arith) (omega arith) in
-        let one = next_byte i b c v (omega arith) s p in
+        let one = next_byte i b c v (omega arith) (plain i (omega arith) (omega arith)) p in
         let ih = stretch_off d (i + 1) j b c one.0 (omega arith) inside (λ k from below. plain k (omega arith) below) one.2 in
         (ih.0, ih.1, one.1 ∙ ap (λ (r : List ℕ). byte src i ∷ r) ih.2 ∙ ap (λ (r : List ℕ). r ++ ih.0) (sym (slice_cons src i j (omega arith) (omega arith))))
 
@@ -301,9 +281,8 @@ module _ (es : List Entity) (src : List ℕ) (utf8 : IsUtf8 src) (stop : ℕ) (l
         line_end i b c v lt cr lf (ih b v (read ∙ ap (λ (p : List ℕ × ℕ). Ok p) (ok_same _ _ h))))
     bit_on i j b c bit v more below (bit_white _ lt is) ih h =
         bind_ok (more j b) _ _ h (λ rest read h.
-        let e : 32 ∷ rest.0 ≡ v = ap (λ (p : List ℕ × ℕ). p.0) (ok_same _ _ h) in
         let f : rest.1 ≡ c = ap (λ (p : List ℕ × ℕ). p.1) (ok_same _ _ h) in
-        subst (λ (w : List ℕ). ValueFrom i b c w) e (white i b c rest.0 lt is (ih b rest.0 (read ∙ ap (λ (n : ℕ). Ok (rest.0, n)) f))))
+        subst (λ (w : List ℕ). ValueFrom i b c w) (ap (λ (p : List ℕ × ℕ). p.0) (ok_same _ _ h)) (white i b c rest.0 lt is (ih b rest.0 (read ∙ ap (λ (n : ℕ). Ok (rest.0, n)) f))))
     bit_on i j b c bit v more below (bit_stretch _ _ some to cut plain chars) ih h =
         bind_ok (more j b) _ _ h (λ rest read h.
         let e : slice src i j ++ rest.0 ≡ v = ap (λ (p : List ℕ × ℕ). p.0) (ok_same _ _ h) in
@@ -316,17 +295,15 @@ module _ (es : List Entity) (src : List ℕ) (utf8 : IsUtf8 src) (stop : ℕ) (l
         subst (λ (w : List ℕ). ValueFrom i b c w) e (a_character i j x b c rest.0 r to any (ih b rest.0 (read ∙ ap (λ (n : ℕ). Ok (rest.0, n)) f))))
     bit_on i j b c bit v more below (bit_entity _ n _ t r none to is) ih h =
         bind_ok (opener t j b) _ _ h (λ x opened h. bind_ok (more j x.1) _ _ h (λ rest read h.
-        let e : x.0 ++ rest.0 ≡ v = ap (λ (p : List ℕ × ℕ). p.0) (ok_same _ _ h) in
         let f : rest.1 ≡ c = ap (λ (p : List ℕ × ℕ). p.1) (ok_same _ _ h) in
-        subst (λ (w : List ℕ). ValueFrom i b c w) e
+        subst (λ (w : List ℕ). ValueFrom i b c w) (ap (λ (p : List ℕ × ℕ). p.0) (ok_same _ _ h))
         (an_entity i j b x.1 c _ x.0 rest.0 (entity_reference n r none) to (agrees.sound (slice src (i + 1) n) t j b x.1 x.0 is opened) (ih x.1 rest.0 (read ∙ ap (λ (n : ℕ). Ok (rest.0, n)) f)))))
 
     -- A value that is read is there.
     pub value_text_sound : (n i b c : ℕ) (v : List ℕ) → i ≤ stop → stop ≤ i + n → (main ≡ true → (k : ℕ) → i ≤ k → k < stop → byte src k ≢ 60) → value_text main es opener n src stop i b ≡ Ok (v, c) → ValueFrom i b c v
     unfolding value_text
     value_text_sound zero i b c v to enough no_tag h =
-        let e : stop ≡ i = omega arith in
-        subst (λ (m : ℕ). ValueFrom m b c v) e (subst (λ (p : List ℕ × ℕ). ValueFrom stop b p.1 p.0) (ok_same _ _ h) (value_ends b))
+        subst (λ (m : ℕ). ValueFrom m b c v) (omega arith) (subst (λ (p : List ℕ × ℕ). ValueFrom stop b p.1 p.0) (ok_same _ _ h) (value_ends b))
     value_text_sound (suc n) i b c v to enough no_tag h = chosen (ltb i stop) _ _ _ h
         (λ lt h. let below = ltb-true _ _ lt in bind_lifted (value_bit_at main es src stop i) _ _ h (λ x read h.
         let bit = value_bit_sound main i x below no_tag read in
@@ -334,8 +311,7 @@ module _ (es : List Entity) (src : List ℕ) (utf8 : IsUtf8 src) (stop : ℕ) (l
         bit_on i x.1 b c x.0 v (λ j l. value_text main es opener n src stop j l) below bit
         (λ l rest more. value_text_sound n x.1 l c rest moves.1 (omega arith) (λ is k from lt. no_tag is k (omega arith) lt) more) h))
         (λ past h.
-        let e : stop ≡ i = omega (arith, ltb-false _ _ past) in
-        subst (λ (m : ℕ). ValueFrom m b c v) e (subst (λ (p : List ℕ × ℕ). ValueFrom stop b p.1 p.0) (ok_same _ _ h) (value_ends b)))
+        subst (λ (m : ℕ). ValueFrom m b c v) (omega (arith, ltb-false _ _ past)) (subst (λ (p : List ℕ × ℕ). ValueFrom stop b p.1 p.0) (ok_same _ _ h) (value_ends b)))
 
     -- Nothing is Chars.
     no_chars : (k : ℕ) → IsCharBoundary src k → AreChars src k k
@@ -350,9 +326,7 @@ module _ (es : List Entity) (src : List ℕ) (utf8 : IsUtf8 src) (stop : ℕ) (l
     -- Within a replacement text it is Chars.
     pub value_text_chars : (n i b c : ℕ) (v : List ℕ) → main ≡ false → IsCharBoundary src i → i ≤ stop → stop ≤ i + n → value_text main es opener n src stop i b ≡ Ok (v, c) → AreChars src i stop
     unfolding value_text
-    value_text_chars zero i b c v within cut to enough h =
-        let e : stop ≡ i = omega arith in
-        subst (λ (m : ℕ). AreChars src m stop) e (no_chars stop stop_cut)
+    value_text_chars zero i b c v within cut to enough h = grind (arith, no_chars)
     value_text_chars (suc n) i b c v within cut to enough h = chosen (ltb i stop) _ _ _ h
         (λ lt h. let below = ltb-true _ _ lt in bind_lifted (value_bit_at main es src stop i) _ _ h (λ x read h.
         let bit = value_bit_sound main i x below (λ z. absurd (false≢true (sym within ∙ z))) read in
@@ -362,8 +336,7 @@ module _ (es : List Entity) (src : List ℕ) (utf8 : IsUtf8 src) (stop : ℕ) (l
         chars_joined src i x.1 stop utf8 cut next stop_cut (omega arith) moves.1 (bit_chars i x.0 x.1 bit')
         (behind b c x.1 x.0 v (λ j l. value_text main es opener n src stop j l) (λ l rest more. value_text_chars n x.1 l c rest within next moves.1 (omega arith) more) h)))
         (λ past h.
-        let e : stop ≡ i = omega (arith, ltb-false _ _ past) in
-        subst (λ (m : ℕ). AreChars src m stop) e (no_chars stop stop_cut))
+        subst (λ (m : ℕ). AreChars src m stop) (omega (arith, ltb-false _ _ past)) (no_chars stop stop_cut))
 
     -- A bit of bytes is read, and then the rest.
     bytes_on : (n i j b c : ℕ) (bytes rest : List ℕ) → i < stop → value_bit_at main es src stop i ≡ Ok (bytes_of bytes, j) → value_text main es opener n src stop j b ≡ Ok (rest, c)
@@ -450,10 +423,7 @@ module _ (es : List Entity) (src : List ℕ) (utf8 : IsUtf8 src) (stop : ℕ) (l
           | inl plain ↦ (
               let o = stretch_off (stop - i) i stop b c v (omega arith) (omega arith) (λ k from below. stays (byte src k) (slice_none is_special src i stop k long (not-true _ plain) from below)) p in
               let z = nothing_left stop b c o.0 (omega arith) o.1 in
-              let same = z.1 in
               let v_is : v ≡ slice src i stop = o.2 ∙ ap (λ (r : List ℕ). slice src i stop ++ r) z.0 ∙ append-nil (slice src i stop) in
-              rw (plain, v_is, same) refl)
-          | inr marked ↦ (
-              let t = value_text_complete (stop - i) i b c v to (omega arith) cut are p in
-              rw (marked, t) refl)
+              rw (plain, v_is, z.1) refl)
+          | inr marked ↦ grind (arith, value_text_complete)
         ]

@@ -14,7 +14,6 @@ use Rattle.rox_grammar.specs.Expansion.{Counts, longest}
 use Rattle.rox_grammar.proofs.FirstEntity.{text_of_first}
 use Rattle.rox_theory.proofs.Onward.{ends_shorten, signs_length, slice_short, reference_onward, value_char, part_bytes, qname_onward, eq_onward, tag_end_onward, end_onward, misc_onward, section_onward}
 use Rattle.rox_theory.proofs.Measures.{Measure, most_of, fewer}
-use Rattle.rox_grammar.specs.Content.{attribute}
 
 module _ (of : Forest Item → ℕ) (is_measure : Measure of) where
   -- The text of a part.
@@ -27,8 +26,7 @@ module _ (of : Forest Item → ℕ) (is_measure : Measure of) where
   section_most src i e j borrowed h =
       let a = ends_shorten (literals (slice src (i + 9) e)) in
       let s = signs_length false (slice src (i + 9) e) in
-      let z = slice_short src (i + 9) e in
-      let t = is_measure.text i j (line_ends (literals (slice src (i + 9) e))) borrowed (e - i) (omega (arith, h)) (omega (arith, h, a, s, z)) in
+      let t = is_measure.text i j (line_ends (literals (slice src (i + 9) e))) borrowed (e - i) (omega (arith, h)) (omega (arith, h, a, s, (slice_short src (i + 9) e))) in
       omega (arith, t, h)
 
   pub misc_most : (src : List ℕ) (i j : ℕ) (item : Item) → IsMisc src i j item → of (leaf item) + i ≤ j
@@ -119,8 +117,6 @@ counts_weigh of is_measure es (suc d) =
     record {
       content = λ name b items c (t, found, is).
           let x = content_weighs of is_measure false (Counts es d) (longest es) inner t.source t.start (length t.source) (b + 1) c items is in
-          let l = longest_is es name t found in
-          let m = more_times b (longest es) in
-          omega (arith, x, l, m);
+          omega (arith, x, (longest_is es name t found), (more_times b (longest es)));
       value = λ name b v c (t, found, chars, is). grind (arith, value_weighs of is_measure false (Counts es d) (longest es) inner t.source (length t.source) t.start (b + 1) c v is, longest_is es name t found);
     }

@@ -81,10 +81,7 @@ module _ (src : List ℕ) (utf8 : IsUtf8 src) where
   -- So an element begins there.
   body_begins : (limit : ℕ) (es : List Entity) (s : State) (x : State × Bool) (t : Forest Item) → body limit es src s ≡ Ok x → finished src x ≡ Ok t → byte src s.at ≡ 60
   unfolding body
-  body_begins limit es s x t h last =
-      chosen (byte src s.at == 60) _ _ _ h
-      (λ here h. eqb-true _ _ here)
-      (λ none h. let e : (s, false) ≡ x = ok_same _ _ h in absurd (unfinished s t (rw (← e) at last)))
+  body_begins limit es s x t h last = grind (arith, unfinished)
 
   -- A step of the main text is a construct.
   steps : (limit : ℕ) (es : List Entity) → AreTexts es → StepsAgree (main_text limit es) (included_in_main es) src
@@ -97,11 +94,10 @@ module _ (src : List ℕ) (utf8 : IsUtf8 src) where
   body_sound limit most es i before t x more texts fine h last =
       let s = state i before root 255 in
       let context = main_text limit es in
-      let agree = steps limit es texts in
       chosen (byte src i == 60) _ _ _ h
       (λ here h. bind_ok (tag_step context src s) _ _ h (λ v read h. bind_ok (drive context (length src) src v) _ _ h (λ u driven h. bind_lifted (misc limit (length src) src u) _ _ h (λ w rest h.
       let tag = tag_read context (included_in_main es) (values_agree es texts most_deep true) (openers_agree limit es texts most_deep true) src utf8 most s v more (eqb-true _ _ here) fine read in
-      let chain = drive_sound limit es src agree (length src) most v u more tag.1 driven in
+      let chain = drive_sound limit es src (steps limit es texts) (length src) most v u more tag.1 driven in
       let begun = tag.0 in
       let chain' : Drives (included_in_main es) src (after s begun.0 begun.2 begun.3 begun.1) u = subst (λ (v : State). Drives (included_in_main es) src v u) begun.5 chain.0 in
       let element = root_element (included_in_main es) src i begun.0 255 begun.1 before begun.2 begun.3 u begun.4 chain' in
@@ -138,9 +134,8 @@ module _ (src : List ℕ) (utf8 : IsUtf8 src) where
         asking_ok (doctype limit allow src (start_dtd s)) _ asked t (λ d. asks_none (body limit d.entities src d.state) _ (λ x. refl)) h (λ d declares h.
         nothing_ok (body limit d.entities src d.state) _ _ _ h (λ x main last.
         let may = prolog_sound src utf8 (after_bom src) i declared in
-        let cut = prolog_cut src utf8 (after_bom src) i (bom_cut src utf8) may in
         let start : IsValidState most (state i Nil root 255) = record { nodes = omega arith; attributes = omega arith; pairs = omega arith; named = tt } in
-        let ahead = misc_sound src utf8 (length src) limit most 255 i Nil s (omega arith) cut start first in
+        let ahead = misc_sound src utf8 (length src) limit most 255 i Nil s (omega arith) (prolog_cut src utf8 (after_bom src) i (bom_cut src utf8) may) start first in
         let s_is : s ≡ state s.at ahead.0 root 255 = ahead.2 in
         let begins = body_begins limit d.entities d.state x t main (ok_lifted (finished src x) [] t last) in
         let dtd = doctypes.sound limit most s.at ahead.0 replies asked d (omega arith) texts (subst (IsValidState most) s_is ahead.3)
@@ -249,8 +244,7 @@ module _ (src : List ℕ) (utf8 : IsUtf8 src) where
         let declared = doctypes.complete limit p.begun p.start dtd p.before p.nodes asked p.entities more p.doctype stops.2 stops.1 permits element in
         let main = body_complete limit p.entities p.start p.end p.openings_left (join p.before p.nodes) p.one p.after (parse_texts dtd asked t read permits) p.element p.misc_after fine in
         let done = finishes (join (join (join p.before p.nodes) p.one) p.after) p.openings_left in
-        let e : asked ++ [] ≡ asked = append-nil asked in
-        rw (b.0, b.1, declared, main, done, e) (ap (λ (f : Forest Item). (asked, Ok f)) (sym f.1))
+        rw (b.0, b.1, declared, main, done, (append-nil asked)) (ap (λ (f : Forest Item). (asked, Ok f)) (sym f.1))
 
     -- What is read is a parse with the document type declaration that is seen.
     pub seen_parse : (limit : ℕ) (replies : List Reply) (asked : List Asked) (t : Forest Item) → AreTextReplies replies → reading limit allow replies src ≡ (asked, Ok t)

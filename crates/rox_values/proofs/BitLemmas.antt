@@ -34,9 +34,8 @@ chars_parted : (src : List ℕ) (i k j : ℕ) → IsUtf8 src → IsCharBoundary 
 chars_parted src i k j utf8 from mid to le le' h =
     let parts = range_parts src i k j le le' to.0 in
     let text = IsUtf8-between src i k utf8 le from mid in
-    let all = chars_all src i j utf8 from to h in
     let split = ap (list_all is_char) (ap chars parts ∙ chars-append (slice_range src i k) (slice_range src k j) text) ∙ list_all-append is_char (chars (slice_range src i k)) (chars (slice_range src k j)) in
-    let both = and_parts (list_all is_char (chars (slice_range src i k))) (list_all is_char (chars (slice_range src k j))) (sym split ∙ all) in
+    let both = and_parts (list_all is_char (chars (slice_range src i k))) (list_all is_char (chars (slice_range src k j))) (sym split ∙ (chars_all src i j utf8 from to h)) in
     (all_chars src i k utf8 le from mid both.0, all_chars src k j utf8 le' mid to both.1)
 
 chars_read : (end : ℕ) (src : List ℕ) (i : ℕ) → AreChars src i end → chars_up_to end src i ≡ Ok (slice_range src i end, end)
@@ -178,12 +177,10 @@ either_stretch : (src : List ℕ) (stop i j : ℕ) → IsUtf8 src → IsCharBoun
 either_stretch src stop i j utf8 from mid to e t =
     let long = length-take-le stop src to.0 in
     let on = e.onward in
-    let within = e.within in
     let both : AllPass passes (take stop src) i j = λ k low high. passes_on _ (e.passes k low high) (ap (λ (b : ℕ). b == 60) (get_or-take stop src k 0 (omega arith)) ∙ t.apart k low (omega arith)) in
-    let there = near_found passes (λ b. is_special b || b == 60) (take stop src) i j on within both passes_plain (λ more. special_ends _ (e.stops more)) in
+    let there = near_found passes (λ b. is_special b || b == 60) (take stop src) i j on e.within both passes_plain (λ more. special_ends _ (e.stops more)) in
     let read = chars_read j src i (chars_parted src i j stop utf8 from mid to on (omega arith) t.chars).0 in
-    let tag = no_tag_at src stop i j to.0 on (omega arith) t.apart in
-    rw (there, read, tag) refl
+    rw (there, read, (no_tag_at src stop i j to.0 on (omega arith) t.apart)) refl
 
 -- a stretch of the whole text, cut off at the end of the front
 pub cut_short : (src : List ℕ) (stop i e j : ℕ) → stop ≤ length src → j ≤ e → j ≤ stop → i ≤ j → (j < stop → j ≡ e) → EndsSet is_stretch_byte src i e → EndsSet is_stretch_byte (take stop src) i j
@@ -238,10 +235,8 @@ inner_on src stop i j within before plain e tag = elim (cases_lt i j) [
   | inl more ↦ more
   | inr past ↦
       let at : j ≡ i = omega arith in
-      let long = length-take-le stop src within in
-      let here : slice_index (take stop src) i ≡ slice_index src i = get_or-take stop src i 0 before in
-      let special : is_special (slice_index (take stop src) j) ≡ true = inner_ends _ (e.stops (omega (arith, long))) tag in
-      let other : is_special (slice_index (take stop src) j) ≡ false = rw (at, here) plain in
+      let special : is_special (slice_index (take stop src) j) ≡ true = inner_ends _ (e.stops (omega (arith, (length-take-le stop src within)))) tag in
+      let other : is_special (slice_index (take stop src) j) ≡ false = rw (at, (get_or-take stop src i 0 before)) plain in
       cc (special, other)
 ]
 
@@ -288,8 +283,7 @@ special_cut src j within stops =
 pub front_put : (src front : List ℕ) (stop i j : ℕ) → IsUtf8 src → IsRest kind_of.Either src i stop → j < stop → EndsSet is_stretch_byte src i j → front ≡ slice_range src i j → PutsBits kind_of.Either src i stop [] front j
 front_put src front stop i j utf8 rest less e is = elim (cases_lt i j) [
   | inl more ↦
-      let within = rest.stop.0 in
-      let short = cut_short src stop i j j within (omega arith) (omega arith) e.onward (λ h. refl) e in
+      let short = cut_short src stop i j j rest.stop.0 (omega arith) (omega arith) e.onward (λ h. refl) e in
       let plain : is_special (slice_index src i) ≡ false = stretch_plain _ (e.passes i (omega arith) more) in
       let s = outer_stretch kind_of.Either src stop i j (λ h. cc h) utf8 rest (omega arith) plain short in
       let b = stretch_put kind_of.Either src [] front stop i j plain s is in
@@ -297,8 +291,7 @@ front_put src front stop i j utf8 rest less e is = elim (cases_lt i j) [
   | inr past ↦
       let at : j ≡ i = omega arith in
       let none : j - i ≡ 0 = omega arith in
-      let empty : front ≡ [] = is ∙ ap (λ (m : ℕ). take m (drop i src)) none in
-      rw (empty, at) (none_put kind_of.Either src [] stop i rest.start)
+      rw ((is ∙ ap (λ (m : ℕ). take m (drop i src)) none), at) (none_put kind_of.Either src [] stop i rest.start)
 ]
 
 pub whole_value : (main : Bool) (es : List Entity) (opener : ValueInclusion) (openings_left : ℕ) (src front new : List ℕ) (stop i j n : ℕ) → PutsBits kind_of.Either src i stop [] front j → PutsBits kind_of.Either src j stop front new n → stop ≤ n

@@ -47,12 +47,9 @@ return_is es src stop i here other = rw (here, other) refl
 
 feed_cut : (src : List ℕ) (stop i : ℕ) → IsUtf8 src → stop ≤ length src → (slice_index (take stop src) (i + 1) == 10) ≡ true → IsCharBoundary src (i + 2)
 feed_cut src stop i utf8 within feed =
-    let there = ten _ feed in
-    let next : i + 1 + 1 ≡ i + 2 = omega arith in
     elim (cases_lt (i + 1) stop) [
       | inl more ↦
-          let here : slice_index (take stop src) (i + 1) ≡ slice_index src (i + 1) = get_or-take stop src (i + 1) 0 more in
-          subst (IsCharBoundary src) next (IsCharBoundary-after_ascii src (i + 1) utf8 (omega arith) (omega (arith, here, there)))
+          subst (IsCharBoundary src) (omega arith) (IsCharBoundary-after_ascii src (i + 1) utf8 (omega arith) (omega (arith, (get_or-take stop src (i + 1) 0 more), (ten _ feed))))
       | inr past ↦ grind (arith, get_or_past, length-take-le)
     ]
 
@@ -116,9 +113,8 @@ ends_data src stop i j to before amp cr e =
         | inr past ↦
             let at : j ≡ i = omega arith in
             let here : slice_index (take stop src) i ≡ slice_index src i = get_or-take stop src i 0 before in
-            let ends : is_run_byte (slice_index (take stop src) j) ≡ false = e.stops (omega (arith, long)) in
             let stays : is_run_byte (slice_index (take stop src) j) ≡ true = rw (at, here) (run_stays (slice_index src i) amp cr) in
-            cc (ends, stays)
+            cc ((e.stops (omega (arith, long))), stays)
       ];
       cut = elim (cases_lt j stop) [
         | inl more ↦
@@ -181,9 +177,8 @@ more_data src old mid new stop i j n before p b =
     let low = p.onward in
     let left = p.reads.0 in
     let room = p.reads.1.0 in
-    let one : (left - 1) + 1 ≡ left = omega arith in
     record {
-      reads = (left - 1, (omega arith, λ es. run_more true es mid new left (left - 1) src stop j n one before (b.value es) ∙ p.reads.1.1 es));
+      reads = (left - 1, (omega arith, λ es. run_more true es mid new left (left - 1) src stop j n (omega arith) before (b.value es) ∙ p.reads.1.1 es));
       onward = omega arith;
       cut = b.cut;
     }

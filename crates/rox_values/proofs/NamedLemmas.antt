@@ -93,5 +93,4 @@ names_character src i n c utf8 is known =
 
 pub after_sign : (src : List ℕ) (i n : ℕ) → IsUtf8 src → IsBeforeSemicolon src i n → IsCharBoundary src (i + 1)
 after_sign src i n utf8 is =
-    let within = stands_within src i 38 is.here (omega arith) in
-    IsCharBoundary-after_ascii src i utf8 within (omega (arith, is.here))
+    IsCharBoundary-after_ascii src i utf8 (stands_within src i 38 is.here (omega arith)) (omega (arith, is.here))

@@ -1,5 +1,5 @@
 -- A replacement text that gives itself in a value.
-use Rattle.std.proofs.Common.{◌≡◌, ◌+◌, ◌-◌, ℕ, true, false, List, [], ◌++◌, Ok, length, drop, take, slice_index, slice_range, sym, refl, ◌∙◌, inl, inr, arith, append-nil, le-ltb}
+use Rattle.std.proofs.Common.{◌≡◌, ◌-◌, ℕ, true, false, List, [], ◌++◌, Ok, length, drop, slice_index, slice_range, sym, refl, ◌∙◌, inl, inr, arith, append-nil, le-ltb}
 use Rattle.std.specs.Str.{IsCharBoundary, IsUtf8}
 use Rattle.std.proofs.lemmas.Bool.{cases_lt}
 use Rattle.std.proofs.lemmas.Bool.Decides.{nat_tests}
@@ -26,11 +26,10 @@ whole_stretch : (src : List ℕ) (i : ℕ) → IsUtf8 src → IsCharBoundary src
 unfolding chars_up_to
 whole_stretch src i utf8 cut all =
     let n = length src in
-    let whole : take n src ≡ src = take_all n src (omega arith) in
     let found : byte_from ends_stretch src i ≡ n = near_found is_quoted_byte ends_stretch src i n cut.0 (omega arith) all quoted_apart (λ more. absurd (omega (arith, more))) in
     let end : IsCharBoundary src n = (omega arith, λ more. absurd (omega (arith, more))) in
     let past : slice_index src n ≡ 0 = get_or_past src n 0 (omega arith) in
-    rw (whole, found, near_chars is_quoted_byte src i n utf8 cut cut.0 end all quoted_is_plain, le-ltb n n (omega arith), past) refl
+    rw ((take_all n src (omega arith)), found, near_chars is_quoted_byte src i n utf8 cut cut.0 end all quoted_is_plain, le-ltb n n (omega arith), past) refl
 
 pub to_end : (src : List ℕ) (i : ℕ) → drop i src ≡ slice_range src i (length src)
 to_end src i = sym (take_all (length src - i) (drop i src) (omega (arith, length-drop i src)))
@@ -44,8 +43,7 @@ plain_reads src i r es opener front utf8 cut all = elim (cases_lt i (length src)
       let plain : is_special (slice_index src i) ≡ false = apart_special (slice_index src i) (quoted_apart (slice_index src i) (all i (omega arith) more)) in
       let one = stretch_is false es src n i plain ∙ whole_stretch src i utf8 cut all in
       let new = front ++ slice_range src i n in
-      let once : (n - 1) + 1 ≡ n = omega arith in
-      sym (value_more false es opener r front new n (n - 1) src n i n once more (rw one refl)) ∙ value_done false es opener r new (n - 1) src n n (omega arith)
+      sym (value_more false es opener r front new n (n - 1) src n i n (omega arith) more (rw one refl)) ∙ value_done false es opener r new (n - 1) src n n (omega arith)
   | inr past ↦ grind (arith, value_done, append-nil)
 ]
   where

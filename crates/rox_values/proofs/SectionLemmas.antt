@@ -16,8 +16,7 @@ stretch (x ∷ xs) n is =
     elim (eqb_tells x 13) [
       | inl cr ↦ let none : n ≡ 0 = rw cr.1 at is in rw (none, cr.1) refl
       | inr other ↦
-          let one = rw other.0 at is in
-          let more : n ≡ suc (position_or_len (λ c. c == 13) xs) = omega (arith, one) in
+          let more : n ≡ suc (position_or_len (λ c. c == 13) xs) = omega (arith, (rw other.0 at is)) in
           rw (more, other.0) (ap (λ l. x ∷ l) (stretch xs _ refl))
     ]
 

@@ -62,9 +62,7 @@ ends_set : (p : ℕ → Bool) (src : List ℕ) (n i : ℕ) → i + n ≡ length 
 ends_set p src zero i same = (i, record { onward = omega arith; within = omega arith; passes = λ k low high. absurd (omega arith); stops = λ more. absurd (omega (arith, more)) })
 ends_set p src (suc n) i same = elim (cases_Bool (p (slice_index src i))) [
   | inl passes_here ↦
-      let r = ends_set p src n (i + 1) (omega arith) in
-      let e = r.1 in
-      let on = e.onward in grind arith
+      let on = ((ends_set p src n (i + 1) (omega arith)).1).onward in grind arith
   | inr fails_here ↦ (i, record { onward = omega arith; within = omega arith; passes = λ k low high. absurd (omega (arith, low, high)); stops = λ more. fails_here })
 ]
 

@@ -63,9 +63,7 @@ tag_is_none kind c may is = λ i given reads. let h = rw is at (reads false may)
 -- white space other than the space
 white_is_none : (c : ℕ) → (c == 60) ≡ false → (c == 9 || (c == 10 || c == 13)) ≡ true → encode_utf8 c ≢ 32 ∷ [] → HasNoCharacter kind_of.Either c
 white_is_none c tag white other = λ i given reads.
-    let one = reads true refl in
-    let two = rw (tag, white) at (reads false refl) in
-    absurd (other (cc (one, two)))
+    absurd (other (cc ((reads true refl), (rw (tag, white) at (reads false refl)))))
 
 none_of : (c : ℕ) → c ≢ 60 → c ≢ 9 → c ≢ 10 → c ≢ 13 → depends_on_kind c ≡ true → ⊥
 none_of c p q r t h = grind (arith, nat_tests)

@@ -5,9 +5,8 @@ use Rattle.std.specs.BTreeMap.{get_by}
 use Rattle.rox_grammar.specs.declared.fault.Fault.{Fault}
 use Rattle.rox_grammar.specs.declared.fault.Fault.TheVariants as fault
 use Rattle.rox_grammar.specs.Entities.{Replacement, Entity, text_of}
-use Rattle.rox_reading.specs.Machine.{budget}
+use Rattle.rox_reading.specs.Machine.{budget, values_of}
 use Rattle.rox_reading.specs.Tags.{Values}
-use Rattle.rox_reading.specs.Machine.{values_of}
 use Rattle.rox_scan.specs.Views.{replacement_view}
 use Rattle.rox_values.specs.HeldEntities.{named_cmp}
 use Rattle.rox_values.specs.declared.entities.Entities.{Entities}

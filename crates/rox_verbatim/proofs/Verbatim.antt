@@ -1,6 +1,6 @@
 -- Names, white space and values of attributes that are read at one look.
-use Rattle.std.proofs.Common.{◌≡◌, ◌≢◌, inl, inr, ℕ, ◌+◌, ◌-◌, ◌<◌, ◌≤◌, ◌||◌, ◌==◌, Bool, true, false, List, [], length, slice_index, slice_range, refl, sym, ap, subst, ◌∙◌, arith, Ok}
-use Rattle.std.proofs.lemmas.Bool.{lt-leb, eqb-true, ne_eqb, cases_lt}
+use Rattle.std.proofs.Common.{◌≡◌, ◌≢◌, inl, inr, ℕ, ◌+◌, ◌-◌, ◌<◌, ◌≤◌, ◌||◌, ◌==◌, Bool, true, false, List, [], length, slice_index, slice_range, refl, sym, ap, subst, ◌∙◌, arith, Ok, not, ◌&&◌, nat_lt}
+use Rattle.std.proofs.lemmas.Bool.{lt-leb, eqb-true, ne_eqb, cases_lt, cases_eq}
 use Rattle.rox_grammar.specs.Content.{is_verbatim_value}
 use Rattle.rox_grammar.specs.Entities.{Entity}
 use Rattle.rox_grammar.specs.Names.{spaces_end}
@@ -16,22 +16,17 @@ use Rattle.std.proofs.lemmas.Bool.Decides.{nat_tests}
 use Rattle.std.proofs.lemmas.Str.{IsCharBoundary-after_ascii}
 use Rattle.rox_grammar.specs.Chars.{is_space, is_name_start, is_name_char, is_part_char}
 use Rattle.rox_bytes.specs.ByteSets.{AllPass, EndsSet, is_part_byte, is_value_byte}
-use Rattle.std.proofs.lemmas.Bool.{cases_eq}
 use Rattle.rox_scan.specs.Lookahead.{ends_value}
 use Rattle.rox_scan.proofs.LongerLemmas.{looked_on, looked_value, value_near}
-use Rattle.rox_bytes.proofs.NearLemmas.{byte_is, near_plain, short_value, value_cut, part_cut, part_stops, part_ascii}
-use Rattle.rox_bytes.proofs.NearLemmas.{part_begins as letter_begins}
+use Rattle.rox_bytes.proofs.NearLemmas.{byte_is, near_plain, short_value, value_cut, part_cut, part_stops, part_ascii, part_begins as letter_begins}
 use Rattle.rox_bytes.proofs.TableLemmas.{agree_below, agree_at}
-use Rattle.std.proofs.Common.{not, ◌&&◌, nat_lt}
 use Rattle.rox_grammar.specs.Runs.{begins, run_end}
 use Rattle.rox_bytes.proofs.RunLemmas.{begins_ascii, run_stops_ascii, space_on, space_stops, space_cut, stands_within}
 
 quote_is : (src : List ℕ) (i q : ℕ) → slice_index src i ≡ q → i < length src → (q == 39 || q == 34) ≡ true → quote_at src i ≡ Ok (q, i + 1)
 unfolding quote_at
 quote_is src i q is within quote =
-    let k = lt-leb (length src) i within in
-    let e : (slice_index src i == 39 || slice_index src i == 34) ≡ true = ap (λ (n : ℕ). n == 39 || n == 34) is ∙ quote in
-    rw (k, e) (ap (λ (n : ℕ). Ok (n, i + 1)) is)
+    rw ((lt-leb (length src) i within), (ap (λ (n : ℕ). n == 39 || n == 34) is ∙ quote)) (ap (λ (n : ℕ). Ok (n, i + 1)) is)
 
 -- an attribute, piece by piece
 pub attribute_is : (src : List ℕ) (i : ℕ) (name : Name) (n e b q j : ℕ) → qname_at src i ≡ Ok (name, n) → e ≡ spaces_end src n → slice_index src e ≡ 61 → b ≡ spaces_end src (e + 1)
@@ -56,9 +51,8 @@ no_space src i utf8 cut within here = sym (space_stops src i utf8 cut within (pa
 -- white space that is one space
 pub one_space : (src : List ℕ) (i : ℕ) → IsUtf8 src → i + 1 < length src → slice_index src i ≡ 32 → 32 < slice_index src (i + 1) → i + 1 ≡ spaces_end src i
 one_space src i utf8 within here behind =
-    let on = space_on src i utf8 (omega arith) (ap is_space here) in
     let cut = space_cut src i utf8 (omega arith) (ap is_space here) in
-    sym (space_stops src (i + 1) utf8 cut within (past_space (slice_index src (i + 1)) behind)) ∙ on
+    sym (space_stops src (i + 1) utf8 cut within (past_space (slice_index src (i + 1)) behind)) ∙ (space_on src i utf8 (omega arith) (ap is_space here))
 
 quote_is_no_space : (b : ℕ) → (b == 39 || b == 34) ≡ true → is_space b ≡ false
 quote_is_no_space b h = grind (arith, nat_tests)
@@ -66,9 +60,7 @@ quote_is_no_space b h = grind (arith, nat_tests)
 -- behind a quote
 pub behind_quote : (src : List ℕ) (n q : ℕ) → IsUtf8 src → n + 1 < length src → slice_index src (n + 1) ≡ q → (q == 39 || q == 34) ≡ true → IsCharBoundary src (n + 2)
 behind_quote src n q utf8 within here quote =
-    let ascii = quote_ascii q quote in
-    let place : n + 1 + 1 ≡ n + 2 = omega arith in
-    subst (IsCharBoundary src) place (IsCharBoundary-after_ascii src (n + 1) utf8 within (omega (arith, here, ascii)))
+    subst (IsCharBoundary src) (omega arith) (IsCharBoundary-after_ascii src (n + 1) utf8 within (omega (arith, here, (quote_ascii q quote))))
 
 -- a value up to a quote each byte of which stands for itself
 pub value_closed : (src : List ℕ) (i e q : ℕ) → IsUtf8 src → IsCharBoundary src i → (q == 39 || q == 34) ≡ true → i ≤ e → e ≤ length src → AllPass is_value_byte src i e
@@ -88,8 +80,7 @@ value_closed src i e q utf8 cut quote onward within passes here =
 pub value_went_on : (src : List ℕ) (i n j q : ℕ) → IsUtf8 src → IsCharBoundary src i → (q == 39 || q == 34) ≡ true → i ≤ n → n ≤ length src → AllPass is_value_byte src i n
     → EndsVerbatim src n q j → HasPlainValue src i q j (slice_range src i j)
 value_went_on src i n j q utf8 cut quote onward within passes ends =
-    let near = value_near src q i n utf8 quote cut onward within passes in
-    let look = looked_on is_special (ends_value q src) src i n j true true utf8 cut near ends.looked in
+    let look = looked_on is_special (ends_value q src) src i n j true true utf8 cut (value_near src q i n utf8 quote cut onward within passes) ends.looked in
     record {
       read = looked_value src q i j true quote look ends.here;
       verbatim = sym look.verbatim_is;
@@ -104,7 +95,6 @@ pub value_starts : (src : List ℕ) (i : ℕ) → IsUtf8 src → i + 1 < length 
     → IsValueStart src i (i + 2)
 value_starts src i utf8 within is quote =
     let ascii = quote_ascii (slice_index src (i + 1)) quote in
-    let place : i + 1 + 1 ≡ i + 2 = omega arith in
     record {
       equals = i;
       before = i + 1;
@@ -115,7 +105,7 @@ value_starts src i utf8 within is quote =
       start = omega arith;
       within = within;
       onward = omega arith;
-      cut = subst (IsCharBoundary src) place (IsCharBoundary-after_ascii src (i + 1) utf8 within ascii);
+      cut = subst (IsCharBoundary src) (omega arith) (IsCharBoundary-after_ascii src (i + 1) utf8 within ascii);
     }
 
 -- an attribute whose value begins so
@@ -123,8 +113,7 @@ pub attribute_reads : (src : List ℕ) (i : ℕ) (name : Name) (n s q j e : ℕ)
     → raw_value_at q src s ≡ Ok (slice_range src s j, j) → slice_index src j ≡ q → e ≡ j + 1
     → attribute_at src i ≡ Ok (record { start = i; name = name; name_end = n; value_start = s; value_end = j }, e)
 attribute_reads src i name n s q j e named v here quote some value behind done =
-    let place : s - 1 ≡ v.before = omega (arith, v.start) in
-    let quoted = subst (λ (k : ℕ). slice_index src k ≡ q) place here in
+    let quoted = subst (λ (k : ℕ). slice_index src k ≡ q) (omega (arith, v.start)) here in
     let read = subst (λ (k : ℕ). raw_value_at q src k ≡ Ok (slice_range src k j, j)) v.start value in
     rw (v.start, done) (attribute_is src i name n v.equals v.before q j named v.spaces v.is v.spaces_behind quoted v.within quote some read behind)
 
@@ -134,9 +123,7 @@ pub item_more : (src : List ℕ) (i j e : ℕ) (raw : RawAttribute) → j ≡ sp
     → attribute_at src j ≡ Ok (raw, e) → tag_item_at src i ≡ Ok (more raw, e)
 unfolding tag_item_at
 item_more src i j e raw spaces some slash close within is =
-    let k = lt-leb (length src) j within in
-    let n = ne_eqb j i some in
-    rw (← spaces, k, slash, close, n, is) refl
+    rw (← spaces, (lt-leb (length src) j within), slash, close, (ne_eqb j i some), is) refl
 
 -- a value is read as it stands
 pub value_is : (main : Bool) (es : List Entity) (opener : ValueInclusion) (src : List ℕ) (i j openings_left : ℕ) → is_verbatim_value (slice_range src i j) ≡ true
@@ -148,8 +135,7 @@ value_is main es opener src i j openings_left plain = rw plain refl
 begins_apart : (src : List ℕ) (j b : ℕ) → IsUtf8 src → begins is_name_start src j ≡ true → 0 < b → b < 128 → is_name_start b ≡ false → (slice_index src j == b) ≡ false
 begins_apart src j b utf8 begins some ascii other =
     ne_eqb (slice_index src j) b (λ is.
-    let within = stands_within src j b is some in
-    let here = begins_ascii is_name_start src j utf8 within (omega (arith, is)) in
+    let here = begins_ascii is_name_start src j utf8 (stands_within src j b is some) (omega (arith, is)) in
     cc (here, begins, is, other))
 
 -- so there the tag does not end
@@ -229,8 +215,7 @@ near_begins src i j utf8 h =
 name_is : (src : List ℕ) (i k : ℕ) → begins is_name_start src i ≡ true → k ≡ run_end is_part_char src i → slice_index src k ≢ 58 → qname_at src i ≡ Ok (record { prefix = []; local = slice_range src i k }, k)
 unfolding qname_at
 name_is src i k some end is =
-    let no : (slice_index src k == 58) ≡ false = ne_eqb (slice_index src k) 58 is in
-    rw (← end, no, some) refl
+    rw (← end, (ne_eqb (slice_index src k) 58 is), some) refl
 
 pub near_named : (src : List ℕ) (i j : ℕ) → IsUtf8 src → EndsNear src i j → qname_at src i ≡ Ok (record { prefix = []; local = slice_range src i j }, j)
 near_named src i j utf8 h = name_is src i j (near_begins src i j utf8 h) (near_ends src i j utf8 h) h.no_colon

@@ -4,19 +4,16 @@ use Rattle.std.proofs.lemmas.List.Elements.{All-from_recursion}
 use Rattle.rox_rows.specs.StoredNodes.{is_element, is_text}
 use Rattle.rox_grammar.specs.Forest.{Forest, size}
 use Rattle.rox_grammar.specs.Tree.{Node}
-use Rattle.rox_rows.specs.Rows.{KindWithin, node, attribute_rows, AttributeRow}
+use Rattle.rox_rows.specs.Rows.{KindWithin, node, attribute_rows, AttributeRow, node_rows}
 use Rattle.rox_names.specs.Tables.{HoldsTree, names_of, scopes_of}
 use Rattle.rox_rows.specs.declared.row.NodeKind.{NodeKind}
-use Rattle.rox_rows.specs.declared.row.NodeKind.TheVariants as kind
 use Rattle.rox_rows.specs.declared.row.NodeData.{NodeData}
 use Rattle.rox_names.specs.declared.tables.Tables.{Tables}
 use Rattle.rox_grammar.specs.Written.{NamespaceDecl}
 use Rattle.roxmltree.specs.Places.{place}
-use Rattle.roxmltree.specs.Stripped.{stripped, stripped_row}
+use Rattle.roxmltree.specs.Stripped.{stripped, stripped_row, content_in}
 use Rattle.roxmltree.specs.NodeParts.{is_root_node, is_element_node, is_text_node, is_comment_node, is_pi_node, start_of, end_of, local_of, pi_of, text_content, content_of, attributes_of}
 use Rattle.roxmltree.specs.Kinds.{type_of}
-use Rattle.roxmltree.specs.Stripped.{content_in}
-use Rattle.rox_rows.specs.Rows.{node_rows}
 use Rattle.roxmltree.proofs.Rows.{row_line, in_rows}
 
 bare_node : (az : List AttributeRow) (namespaces : List NamespaceDecl) (lists : List (List NamespaceDecl)) (start end : ℕ) (k : NodeKind) → stripped_row start end k ≡ stripped (node az namespaces lists start end k)

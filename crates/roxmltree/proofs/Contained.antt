@@ -44,9 +44,8 @@ module _ (T : List Place) where
             let here : bare_at b ≡ lists_none node = ap (λ p. none_of (listed_of p.item)) s.0 ∙ lists_says node in
             rw (e, inside) (more ∙ ap (λ (q : Bool). self_contained children id && (q && list_all bare_at up)) here ∙ and_swap (self_contained children id) (lists_none node) (list_all bare_at up)))
         | inr past ↦ (
-            let out = le-ltb id (size children) past in
             let e : b + suc id ≡ b + (1 + size children) + (id - size children) = omega arith in
-            rw (e, out) (contained_sits up (b ∷ left) (b + (1 + size children)) rest (id - size children) s.3 (omega arith)))
+            rw (e, (le-ltb id (size children) past)) (contained_sits up (b ∷ left) (b + (1 + size children)) rest (id - size children) s.3 (omega arith)))
       ]
 
   bounds_sit : (up left : List ℕ) (b : ℕ) (f : Forest Node) (id : ℕ) → Sits T up left b f → id < size f
@@ -104,8 +103,7 @@ nearest_is d (id ∷ ids) s is =
     elim (cases_Bool (is_element_node (node_at d.tree id))) as (λ q. (s.0 ≡ d) × (s.1 ≡ first_element d.tree (id ∷ ids))) [
       | inl here ↦ grind arith
       | inr later ↦ (
-          let more : Some s ≡ nearest_element (node_refs d ids) = rw later at is in
-          rw later (nearest_is d ids s more))
+          rw later (nearest_is d ids s (rw later at is)))
     ]
 
 -- none are listed where their count is 0

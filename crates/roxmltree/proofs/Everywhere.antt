@@ -1,12 +1,11 @@
 -- What is true of each node of a tree is true of the node of each id.
-use Rattle.std.proofs.Common.{ℕ, ◌+◌, List, [], ◌∷◌, ◌++◌, length, ⊎_elim}
+use Rattle.std.proofs.Common.{ℕ, ◌+◌, List, [], ◌∷◌, ◌++◌, arith}
 use Rattle.std.specs.List.{All}
-use Rattle.std.proofs.lemmas.Bool.{cases_lt}
 use Rattle.std.proofs.lemmas.List.{get_or_past}
-use Rattle.std.proofs.lemmas.List.Elements.{All-nil, All-cons, All-append, All-get_or}
+use Rattle.std.proofs.lemmas.List.Elements.{All-nil, All-cons, All-append}
 use Rattle.rox_grammar.specs.Forest.{Forest, Nil, Cons, size}
 use Rattle.rox_grammar.specs.Tree.{Node, Root}
-use Rattle.roxmltree.specs.Places.{Place, place_at, places, nowhere, preorder, place}
+use Rattle.roxmltree.specs.Places.{Place, place_at, places, preorder, place}
 use Rattle.roxmltree.specs.NodeParts.{node_at}
 use Rattle.roxmltree.specs.EachNode.{EachNode}
 
@@ -20,8 +19,4 @@ all_places P up left b (Cons x c r) h =
 -- an id that no node has stands for a root node
 pub at_each : (P : Node → Type 0) (f : Forest Node) → EachNode P f → P (Root 0) → (id : ℕ) → P (node_at f id)
 unfolding place preorder
-at_each P f h none id =
-    ⊎_elim
-    (λ inside. All-get_or (λ (p : Place). P p.item) (preorder f) id nowhere inside (all_places P [] [] 0 f h))
-    (λ past. rw (get_or_past (preorder f) id nowhere past) none)
-    (cases_lt id (length (preorder f)))
+at_each P f h none id = grind (arith, all_places, get_or_past)

@@ -6,7 +6,7 @@ use Rattle.rox_grammar.specs.Forest.{Forest, Nil, Cons, size}
 use Rattle.rox_grammar.specs.Tree.{Node}
 use Rattle.roxmltree.specs.DocumentView.{DocumentView}
 use Rattle.roxmltree.specs.NodeRef.{node_refs}
-use Rattle.roxmltree.specs.Places.{ids, first_descent, last_descent, places, nowhere, preorder, place, children}
+use Rattle.roxmltree.specs.Places.{ids, first_descent, last_descent, places, nowhere, preorder, place}
 use Rattle.roxmltree.specs.ChildrenLeft.{between}
 use Rattle.roxmltree.proofs.Preorder.{at, here, place_is, length-places, length-preorder}
 use Rattle.roxmltree.proofs.Stretches.{children_left}
@@ -35,8 +35,7 @@ few_left up left b (Cons x c r) (suc k) l =
     let lc : length pc ≡ size c = length-places (b ∷ up) [] (b + 1) c in
     ⊎_elim
     (λ (low : k < size c).
-    let m : k < length pc = omega arith in
-    rw (get_or_append_left pc pr nowhere k m) (omega (arith, few_left (b ∷ up) [] (b + 1) c k low)))
+    rw (get_or_append_left pc pr nowhere k (omega arith)) (omega (arith, few_left (b ∷ up) [] (b + 1) c k low)))
     (λ high.
     let j = k - size c in
     let e : k ≡ length pc + j = omega arith in

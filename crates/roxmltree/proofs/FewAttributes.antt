@@ -28,6 +28,5 @@ few_resolved most above (Cons (written.PI a e t o) c r) h = (omega arith, few_re
 -- in a document
 pub few_attributes : {dtd : Bool} {asked : List Asked} (src : List ℕ) (limit : ℕ) (tree : Forest Node) (id : ℕ) → IsTreeOf src dtd asked limit tree → length (attributes_of (node_at tree id)) < 2 ^ 32
 few_attributes src limit tree id is =
-    let all : EachNode (HasFew most_attributes) tree = grind (arith, few_resolved) in
-    let here : HasFew most_attributes (node_at tree id) = at_each (HasFew most_attributes) tree all (omega arith) id in
+    let here : HasFew most_attributes (node_at tree id) = at_each (HasFew most_attributes) tree (grind (arith, few_resolved)) (omega arith) id in
     omega (arith, here)

@@ -1,18 +1,15 @@
 -- The nodes with no sibling before them: the root, and first children.
 use Rattle.std.proofs.Common.{◌≡◌, ℕ, ◌+◌, ◌<◌, ◌≤◌, Some, None, refl, arith}
-use Rattle.std.specs.List.{Contains}
 use Rattle.rox_grammar.specs.Forest.{Forest, size}
 use Rattle.rox_grammar.specs.Tree.{Node}
-use Rattle.roxmltree.specs.Places.{place, parent, prev_sibling}
+use Rattle.roxmltree.specs.Places.{parent, prev_sibling}
 use Rattle.roxmltree.proofs.Preorder.{parent_is, prev_sibling_root, prev_sibling_none}
 use Rattle.roxmltree.proofs.Siblings.{above_holds}
 
 -- A parent has a lesser id.
 parent_before : (f : Forest Node) (i p : ℕ) → i < size f → parent f i ≡ Some p → p < i
 parent_before f i p l e =
-    let a = parent_is f i p l e in
-    let h : Contains (place f i).above p = rw a.1 (0, omega arith, refl) in
-    (above_holds f p i l h).0
+    (above_holds f p i l (rw (parent_is f i p l e).1 (0, omega arith, refl))).0
 
 -- Such a node has no parent, or its parent is right before it.
 pub no_sibling_before : (f : Forest Node) (i p : ℕ) → i < size f → (0 < i → parent f i ≡ Some p) → i ≤ p + 1 → prev_sibling f i ≡ None

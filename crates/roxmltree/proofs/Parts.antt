@@ -4,7 +4,7 @@ use Rattle.std.specs.Option.{option_map}
 use Rattle.rox_grammar.specs.Forest.{Forest, size}
 use Rattle.rox_grammar.specs.Tree.{Node}
 use Rattle.rox_grammar.specs.Written.{NamespaceDecl}
-use Rattle.rox_rows.specs.Rows.{numbered_place, KindWithin, node, attribute, attribute_rows, AttributeRow}
+use Rattle.rox_rows.specs.Rows.{numbered_place, KindWithin, node, attribute, attribute_rows, AttributeRow, node_rows}
 use Rattle.rox_reading.specs.AtIndex.{scope_at, namespace_at}
 use Rattle.rox_names.specs.Tables.{HoldsTree, names_of, scopes_of}
 use Rattle.rox_scopes.specs.Scopes.{places_in, ArePlaces}
@@ -17,7 +17,6 @@ use Rattle.rox_scopes.proofs.Ropes.{scope_places, all_places}
 use Rattle.roxmltree.specs.Places.{place}
 use Rattle.roxmltree.specs.NodeParts.{namespace_of, listed_of, attributes_of}
 use Rattle.roxmltree.proofs.Rows.{row_line, in_rows}
-use Rattle.rox_rows.specs.Rows.{node_rows}
 use Rattle.roxmltree.proofs.Bare.{row_within}
 use Rattle.rox_content.proofs.RootTags.{none_below}
 

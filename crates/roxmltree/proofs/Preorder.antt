@@ -27,14 +27,12 @@ sits T up left b (Cons x c r) h n =
     let pc = places (b ∷ up) [] (b + 1) c in
     let pr = places up (b ∷ left) (b + (1 + size c)) r in
     let lc : length pc ≡ size c = length-places (b ∷ up) [] (b + 1) c in
-    let h0 : at T (b + 0) ≡ place_at up left b x c r = h 0 (omega arith) in
     let e0 : b + 0 ≡ b = omega arith in (
-      rw e0 at h0,
+      rw e0 at (h 0 (omega arith)),
       omega arith,
       sits T (b ∷ up) [] (b + 1) c
           (λ k l. let e : (b + 1) + k ≡ b + suc k = omega arith in
-          let m : k < length pc = omega arith in
-          rw e (h (suc k) (omega arith) ∙ get_or_append_left pc pr nowhere k m))
+          rw e (h (suc k) (omega arith) ∙ get_or_append_left pc pr nowhere k (omega arith)))
           (omega arith),
       sits T up (b ∷ left) (b + (1 + size c)) r
           (λ k l. let e : (b + (1 + size c)) + k ≡ b + suc (length pc + k) = omega arith in
@@ -170,8 +168,7 @@ place_id f i l = ap (λ p. p.id) (place_is f i (here f i l))
 pub place_end : (f : Forest Node) (i : ℕ) → i < size f → i + (place f i).count ≤ size f
 place_end f i l =
     let h = here f i l in
-    let k : i + (1 + size h.below) ≤ size f = omega (arith, h.ends, length-preorder f) in
-    rw (place_is f i h) k
+    rw (place_is f i h) (omega (arith, h.ends, length-preorder f))
 
 -- ---- the first child
 first_some : (b : ℕ) (f : Forest Node) → 0 < size f → first (ids b f) ≡ Some b
@@ -240,17 +237,13 @@ depth_le f i l = let h = here f i l in rw (place_is f i h) h.deep
 pub next_child : (f : Forest Node) (i e q : ℕ) → i < size f → e ≡ i + (place f i).count → e < size f → (i ≡ 0 → e ≡ size f) → (0 < i → parent f i ≡ Some q) → (0 < e → parent f e ≡ Some q) → next_sibling f i ≡ Some e
 next_child f i e q l is m root one other =
     let low : 0 < i = ⊎_elim (λ none. absurd (let z = root none in omega arith)) (λ some. omega arith) (cases_eq i 0) in
-    let a = parent_is f i q l (one low) in
-    let b = parent_is f e q m (other (omega arith)) in
-    let k = next_sibling_some f i l in
-    rw (← is) at k (omega arith) (ap length b.1 ∙ sym (ap length a.1))
+    rw (← is) at (next_sibling_some f i l) (omega arith) (ap length (parent_is f e q m (other (omega arith))).1 ∙ sym (ap length (parent_is f i q l (one low)).1))
 
 pub no_next_child : (f : Forest Node) (i e q r : ℕ) → i < size f → e ≡ i + (place f i).count → e < size f → (i ≡ 0 → e ≡ size f) → (0 < i → parent f i ≡ Some q) → (0 < e → parent f e ≡ Some r) → (r ≡ q → ⊥) → next_sibling f i ≡ None
 no_next_child f i e q r l is m root one other ne =
     let low : 0 < i = ⊎_elim (λ none. absurd (let z = root none in omega arith)) (λ some. omega arith) (cases_eq i 0) in
     next_sibling_none f i l (λ k same.
-    let p : parent f e ≡ parent f i = rw is (ap first same) in
-    let z : Some r ≡ Some q = sym (other (omega arith)) ∙ p ∙ one low in
+    let z : Some r ≡ Some q = sym (other (omega arith)) ∙ (rw is (ap first same)) ∙ one low in
     ne cc)
 
 pub no_next_row : (f : Forest Node) (i e : ℕ) → i < size f → e ≡ i + (place f i).count → size f ≤ e → next_sibling f i ≡ None
@@ -289,24 +282,19 @@ chain_at T (x ∷ xs) i up c = chain_at T xs i up c.2
 -- a node is not among those below it
 not_among : (T : List Place) (y : ℕ) (xs : List ℕ) (i : ℕ) (up : List ℕ) → Chain T (y ∷ (xs ++ i ∷ up)) → y ≡ i → ⊥
 not_among T y xs i up c same =
-    let a = chain_at T xs i up c.2 in
-    let b : (at T i).above ≡ xs ++ i ∷ up = rw same at c.1 in
-    omega (arith, ap length a, ap length b, length-append xs (i ∷ up))
+    omega (arith, ap length (chain_at T xs i up c.2), ap length (rw same at c.1), length-append xs (i ∷ up))
 
 child_behind : (T : List Place) (xs : List ℕ) (q i : ℕ) (up : List ℕ) → Chain T (xs ++ q ∷ i ∷ up) → child_in (xs ++ q ∷ i ∷ up) i ≡ q
 child_behind T [] q i up c = child_here q (i ∷ up) i refl
 child_behind T (x ∷ []) q i up c = child_above x q (i ∷ up) i (not_among T q [] i up c.2) ∙ child_behind T [] q i up c.2
 child_behind T (x ∷ y ∷ xs) q i up c =
-    let e : (xs ++ q ∷ []) ++ i ∷ up ≡ xs ++ q ∷ i ∷ up = append_assoc xs (q ∷ []) (i ∷ up) in
-    let c' : Chain T (y ∷ ((xs ++ q ∷ []) ++ i ∷ up)) = rw e c.2 in
-    child_above x y (xs ++ q ∷ i ∷ up) i (not_among T y (xs ++ q ∷ []) i up c') ∙ child_behind T (y ∷ xs) q i up c.2
+    child_above x y (xs ++ q ∷ i ∷ up) i (not_among T y (xs ++ q ∷ []) i up (rw (append_assoc xs (q ∷ []) (i ∷ up)) c.2)) ∙ child_behind T (y ∷ xs) q i up c.2
 
 pub up_to_leads : (f : Forest Node) (j q i : ℕ) (up : List ℕ) → Leads (preorder f) j q (i ∷ up) → up_to f j i ≡ q
 unfolding up_to place
 up_to_leads f j q i up g =
     let h = here f j (omega (arith, g.inside, length-preorder f)) in
-    let c : Chain (preorder f) (j ∷ (at (preorder f) j).above) = (g.inside, refl, rw h.is h.chain) in
-    let c' : Chain (preorder f) (g.through ++ q ∷ i ∷ up) = subst (λ (xs : List ℕ). Chain (preorder f) xs) g.is c in
+    let c' : Chain (preorder f) (g.through ++ q ∷ i ∷ up) = subst (λ (xs : List ℕ). Chain (preorder f) xs) g.is (g.inside, refl, rw h.is h.chain) in
     subst (λ (xs : List ℕ). child_in xs i ≡ q) (sym g.is) (child_behind (preorder f) g.through q i up c')
 
 -- what is come to is a child of the node above it
@@ -314,8 +302,7 @@ leads_under : (f : Forest Node) (j q i : ℕ) (up : List ℕ) → Leads (preorde
 unfolding place
 leads_under f j q i up g =
     let h = here f j (omega (arith, g.inside, length-preorder f)) in
-    let c : Chain (preorder f) (j ∷ (at (preorder f) j).above) = (g.inside, refl, rw h.is h.chain) in
-    let c' : Chain (preorder f) (g.through ++ q ∷ i ∷ up) = subst (λ (xs : List ℕ). Chain (preorder f) xs) g.is c in
+    let c' : Chain (preorder f) (g.through ++ q ∷ i ∷ up) = subst (λ (xs : List ℕ). Chain (preorder f) xs) g.is (g.inside, refl, rw h.is h.chain) in
     ap first (chain_at (preorder f) g.through q (i ∷ up) c')
 
 -- a step from a node towards the child of q that is above it
@@ -324,9 +311,7 @@ pub climbs : (f : Forest Node) (i p r q : ℕ) → i < size f → parent f (up_t
 climbs f i p r q l under none some again ne =
     ⊎_elim
     (λ low.
-    let here : up_to f i q ≡ i = up_to_root f i q (none low) in
-    let child : parent f i ≡ Some q = rw here at under in
-    absurd (let z : None ≡ Some q = sym (none low) ∙ child in cc))
+    absurd (let z : None ≡ Some q = sym (none low) ∙ (rw (up_to_root f i q (none low)) at under) in cc))
     (λ high.
     let e = some (omega arith) in
     let z : Some r ≡ Some p = sym (again (omega arith)) ∙ e in
@@ -344,16 +329,14 @@ last_child_some f i j l m e =
     let h = here f i l in
     let e' : i + (1 + size h.below) ≡ j + 1 = rw (place_is f i h) at e in
     let r = right_end (preorder f) (i ∷ h.up) [] (i + 1) h.below j h.under (omega arith) (omega arith) in
-    let u = up_to_leads f j r.top i h.up r.leads in
-    rw (place_is f i h) (rw u r.is)
+    rw (place_is f i h) (rw (up_to_leads f j r.top i h.up r.leads) r.is)
 
 pub last_child_under : (f : Forest Node) (i j : ℕ) → i < size f → 1 < (place f i).count → i + (place f i).count ≡ j + 1 → parent f (up_to f j i) ≡ Some i
 last_child_under f i j l m e =
     let h = here f i l in
     let e' : i + (1 + size h.below) ≡ j + 1 = rw (place_is f i h) at e in
     let r = right_end (preorder f) (i ∷ h.up) [] (i + 1) h.below j h.under (omega arith) (omega arith) in
-    let u = up_to_leads f j r.top i h.up r.leads in
-    rw u (leads_under f j r.top i h.up r.leads)
+    rw (up_to_leads f j r.top i h.up r.leads) (leads_under f j r.top i h.up r.leads)
 
 pub last_child_none : (f : Forest Node) (i : ℕ) → i < size f → (place f i).count ≤ 1 → last_child f i ≡ None
 last_child_none f i l m =
@@ -368,8 +351,7 @@ prev_some f i j p (q ∷ up) [] prior e is n = let same : q ≡ p = cc in absurd
 prev_some f i j p (k ∷ up) (q ∷ left) prior e is n =
     let same : prior.0 ≡ j = omega (arith, prior.1) in
     let parent_same : k ≡ p = cc in
-    let u = up_to_leads f prior.0 q k up prior.2 in
-    let u' : up_to f j p ≡ q = rw (same, parent_same) at u in
+    let u' : up_to f j p ≡ q = rw (same, parent_same) at (up_to_leads f prior.0 q k up prior.2) in
     ap Some (sym u')
 
 prev_under : (f : Forest Node) (i j p : ℕ) (up left : List ℕ) → Prior (preorder f) i up left → i ≡ j + 1 → first up ≡ Some p → (p ≡ j → ⊥) → parent f (up_to f j p) ≡ Some p
@@ -378,8 +360,7 @@ prev_under f i j p (q ∷ up) [] prior e is n = let same : q ≡ p = cc in absur
 prev_under f i j p (k ∷ up) (q ∷ left) prior e is n =
     let same : prior.0 ≡ j = omega (arith, prior.1) in
     let parent_same : k ≡ p = cc in
-    let u = up_to_leads f prior.0 q k up prior.2 in
-    let u' : up_to f j p ≡ q = rw (same, parent_same) at u in
+    let u' : up_to f j p ≡ q = rw (same, parent_same) at (up_to_leads f prior.0 q k up prior.2) in
     rw u' (leads_under f prior.0 q k up prior.2 ∙ ap Some parent_same)
 
 prev_none : (f : Forest Node) (i j : ℕ) (up left : List ℕ) → Chain (preorder f) up → Prior (preorder f) i up left → i ≡ j + 1 → first up ≡ Some j → first left ≡ None
@@ -387,10 +368,7 @@ prev_none f i j up [] c p e n = refl
 prev_none f i j up (q ∷ left) c p e n =
     let same : p.0 ≡ j = omega (arith, p.1) in
     let g : Leads (preorder f) j q up = rw same at p.2 in
-    let a = above_parent (preorder f) up j c n in
-    let x = ap length a.1 in
-    let y = ap length g.is in
-    absurd (omega (arith, x, y, length-append g.through (q ∷ up)))
+    absurd (omega (arith, (ap length (above_parent (preorder f) up j c n).1), (ap length g.is), length-append g.through (q ∷ up)))
 
 no_before : (f : Forest Node) (i : ℕ) (up left : List ℕ) → Prior (preorder f) i up left → i ≡ 0 → first left ≡ None
 no_before f i up left p e = grind arith

@@ -3,14 +3,13 @@ use Rattle.std.proofs.Common.{◌≡◌, ℕ, ◌+◌, ◌-◌, ◌<◌, Bool, L
 use Rattle.std.proofs.lemmas.List.{get_or-map, length-map, map-append}
 use Rattle.rox_grammar.specs.Forest.{Forest, Nil, Cons, size}
 use Rattle.rox_grammar.specs.Tree.{Node}
-use Rattle.rox_rows.specs.Rows.{RowView, row_view, preorder_rows, attribute_rows}
+use Rattle.rox_rows.specs.Rows.{RowView, row_view, preorder_rows, attribute_rows, node_rows}
 use Rattle.rox_names.specs.Tables.{names_of, scopes_of, HoldsTree}
 use Rattle.rox_rows.specs.declared.row.NodeData.{NodeData}
 use Rattle.rox_names.specs.declared.tables.Tables.{Tables}
 use Rattle.roxmltree.specs.TreeCodes.{flattened, unflattened, unflattened-flattened}
 use Rattle.roxmltree.specs.Places.{Place, places, preorder, place, nowhere, first, parent}
 use Rattle.roxmltree.specs.DocumentTables.{tree_in, nodes_from, HoldsDocument, IsWhole}
-use Rattle.rox_rows.specs.Rows.{node_rows}
 use Rattle.roxmltree.proofs.Preorder.{length-places, place_id}
 use Rattle.roxmltree.proofs.Tops.{IsDocument, none_above, some_above, all_below}
 
@@ -77,11 +76,10 @@ pub row_line : (t : Tables) (f : Forest Node) (i : ℕ) (x : NodeData) → Holds
 unfolding place preorder
 row_line t f i x h l e =
     let read = row_view (attribute_rows t.attributes) (names_of t) (scopes_of t) in
-    let n : i < length (places [] [] 0 f) = omega (arith, row_count t f h, length-places [] [] 0 f) in
     ap read e
     ∙ sym (get_or-map read (node_rows t.nodes) i x (read x) l)
     ∙ ap (λ ls. get_or ls i (read x)) (h.rows ∙ sym (preorder_rows-places [] [] 0 f))
-    ∙ get_or-map place_line (places [] [] 0 f) i nowhere (read x) n
+    ∙ get_or-map place_line (places [] [] 0 f) i nowhere (read x) (omega (arith, row_count t f h, length-places [] [] 0 f))
 
 -- an id of the tree is a row's
 pub in_rows : (t : Tables) (f : Forest Node) (i : ℕ) → HoldsTree t f → i < size f → i < length (node_rows t.nodes)

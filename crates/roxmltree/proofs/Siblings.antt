@@ -37,9 +37,8 @@ unfolding place
 row_at f i k q l m e =
     let h = here f i l in
     let n = length-preorder f in
-    let m' : k < length (ids i (Cons h.item h.below h.beside)) = rw h.is at m in
     let e' : get_or (ids i (Cons h.item h.below h.beside)) k 0 ≡ q = subst (λ (p : Place). get_or (i ∷ p.after) k 0 ≡ q) h.is e in
-    let s = sib (preorder f) h.up h.left i (Cons h.item h.below h.beside) k (row_sits f i h) m' in
+    let s = sib (preorder f) h.up h.left i (Cons h.item h.below h.beside) k (row_sits f i h) (rw h.is at m) in
     record {
       inside = rw (← e') (omega (arith, s.inside));
       after = rw h.is (rw (← e') s.after);
@@ -84,19 +83,7 @@ next_row f i n l e =
 -- from the front
 pub run_next : (f : Forest Node) (i j n : ℕ) → i < size f → IsSiblingRange f i j → (i ≡ j → ⊥) → next_sibling f i ≡ Some n → (siblings_through f i j ≡ i ∷ siblings_through f n j) × IsSiblingRange f n j
 unfolding siblings_through
-run_next f i j n l r ne e =
-    let a = next_row f i n l e in
-    let p = apart_pos f i j r ne in
-    let k : apart f i j ≡ suc (apart f n j) = omega (arith, a.2) in
-    let short : suc (apart f n j) < length (row_from f i) = rw k at r.short in
-    let there : get_or (row_from f i) (suc (apart f n j)) 0 ≡ j = rw k at r.there in (
-      rw (k, a.1) refl,
-      record {
-        le = omega (arith, a.2);
-        short = omega (arith, short, ap length a.1);
-        there = rw a.1 at there;
-      },
-    )
+run_next f i j n l r ne e = grind (arith, next_row)
 
 pub run_next_none : (f : Forest Node) (i j : ℕ) → IsSiblingRange f i j → (i ≡ j → ⊥) → next_sibling f i ≡ None → ⊥
 run_next_none f i j r ne e = grind (arith, no_first)
@@ -106,9 +93,7 @@ back_at : (f : Forest Node) (i j k : ℕ) → i < size f → IsSiblingRange f i 
 back_at f i j k l r e =
     let q = get_or (row_from f i) k 0 in
     let a = row_at f i k q l (omega (arith, r.short)) refl in
-    let d = drop-cons (row_from f i) (suc k) 0 (omega (arith, r.short)) in
-    let t : get_or (row_from f i) (suc k) 0 ≡ j = rw e at r.there in
-    let n : next_sibling f q ≡ Some j = rw (a.after, d, t) refl in
+    let n : next_sibling f q ≡ Some j = rw (a.after, (drop-cons (row_from f i) (suc k) 0 (omega (arith, r.short))), (rw e at r.there)) refl in
     (a.inside, next_prev f q j a.inside n)
 
 -- from the back
@@ -165,9 +150,8 @@ run_children f i c d l e u =
     let k = child_row f i c l e in
     let xs = (place f c).after in
     let t : get_or (row_from f c) (length xs) 0 ≡ d = last_at c xs d (ap last (sym k.1) ∙ u) in
-    let a = row_at f c (length xs) d k.0 (omega arith) t in
     let z : length (place f c).before ≡ 0 = ap length k.2 in
-    let n : apart f c d ≡ length xs = omega (arith, a.before) in (
+    let n : apart f c d ≡ length xs = omega (arith, (row_at f c (length xs) d k.0 (omega arith) t).before) in (
       rw n (take_whole (row_from f c) ∙ sym k.1),
       record {
         le = omega arith;
@@ -307,8 +291,7 @@ above_is T up left b (Cons x c r) s j l m i h =
     (λ same. let e : (at T j).above ≡ up = rw same (ap (λ p. p.above) s.0) in inl (rw e at h))
     (λ (other : j ≡ b → ⊥). ⊎_elim
     (λ (low : j < b + (1 + size c)).
-    let n : (at T b).count ≡ 1 + size c = ap (λ p. p.count) s.0 in
-    step_up T up b j i (omega arith) (omega (arith, n)) (above_is T (b ∷ up) [] (b + 1) c s.2 j (omega arith) (omega arith) i h))
+    step_up T up b j i (omega arith) (omega (arith, (ap (λ p. p.count) s.0))) (above_is T (b ∷ up) [] (b + 1) c s.2 j (omega arith) (omega arith) i h))
     (λ high. above_is T up (b ∷ left) (b + (1 + size c)) r s.3 j high (omega arith) i h)
     (cases_lt j (b + (1 + size c))))
     (cases_eq j b)

@@ -1,8 +1,7 @@
 -- Siblings from both ends.
-use Rattle.std.proofs.Common.{◌≡◌, ℕ, suc, zero, ◌+◌, ◌-◌, ◌<◌, ◌≤◌, List, [], ◌∷◌, ◌++◌, Option, Some, None, length, get_or, refl, sym, ap, ◌∙◌, subst, arith, ⊎_elim, ◌⊎◌, inl, inr}
+use Rattle.std.proofs.Common.{◌≡◌, ℕ, suc, zero, ◌+◌, ◌-◌, ◌<◌, ◌≤◌, List, [], ◌∷◌, ◌++◌, Option, Some, None, length, get_or, refl, sym, ap, ◌∙◌, subst, arith, ⊎_elim, ◌⊎◌, inl, inr, length-append}
 use Rattle.std.proofs.lemmas.Bool.{cases_lt, cases_eq}
 use Rattle.std.proofs.lemmas.List.{map-append}
-use Rattle.std.proofs.Common.{length-append}
 use Rattle.rox_grammar.specs.Forest.{Forest, Nil, Cons, size}
 use Rattle.rox_grammar.specs.Tree.{Node}
 use Rattle.roxmltree.specs.DocumentView.{DocumentView}
@@ -57,8 +56,7 @@ row_low : (f : Forest Node) (i k : ℕ) → i < size f → k < length (row_from 
 unfolding place
 row_low f i k l m =
     let h = here f i l in
-    let m' : k < length (ids i (Cons h.item h.below h.beside)) = rw h.is at m in
-    subst (λ (p : Place). i ≤ get_or (i ∷ p.after) k 0) (sym h.is) (ids_from i (Cons h.item h.below h.beside) k m')
+    subst (λ (p : Place). i ≤ get_or (i ∷ p.after) k 0) (sym h.is) (ids_from i (Cons h.item h.below h.beside) k (rw h.is at m))
 
 run_low : (f : Forest Node) (i j : ℕ) → i < size f → IsSiblingRange f i j → i ≤ j
 run_low f i j l r = rw r.there at (row_low f i (apart f i j) l r.short)
@@ -189,13 +187,11 @@ record Whole (f : Forest Node) (i : ℕ) : Type 0 where
 whole_children : (f : Forest Node) (i : ℕ) → i < size f → Whole f i
 whole_children f i l =
     let n = (place f i).count in
-    let j = (i + n) - 1 in
     let z = last_before f (i + n) i in
     ⊎_elim
     (λ more.
-    let c = first_child_some f i l more in
-    let d : last_child f i ≡ Some z = last_child_some f i j l more (omega arith) in
-    let r = run_children f i (i + 1) z l c d in
+    let d : last_child f i ≡ Some z = last_child_some f i ((i + n) - 1) l more (omega arith) in
+    let r = run_children f i (i + 1) z l (first_child_some f i l more) d in
     let k = last_child_is f i z l d in
     record {
       rest = some_of ((i + n) - (i + 1)) (siblings_through f (i + 1) z) (omega arith) ∙ r.0;

@@ -98,10 +98,9 @@ module _ (limit : ℕ) (allow : Bool) (allows : Request → Reply → Type 0) (s
         by_case (there source f) h may told = absurd (no_resolver source f e p words is told.1)
         by_case (refused request at message) h may (own, bytes, told) =
             let same : error.EntityResolver p words ≡ error.EntityResolver (position_at src at) own = sym is ∙ told in
-            let place : p ≡ position_at src at = cc same in
             let text : words ≡ own = cc same in
             let asks = asks_next src utf8 allow limit (replies_of first.asked ++ with_refusal (refused request at message) []) first.asked request at message (stop_texts first.asked (refused request at message) first.texts) h in
-            (first.asked, request, at, asks.0, first.allowed, asks.1, subst (λ (m : List ℕ). allows request (Err m)) (sym bytes ∙ sym (ap string_bytes text)) may, place)
+            (first.asked, request, at, asks.0, first.allowed, asks.1, subst (λ (m : List ℕ). allows request (Err m)) (sym bytes ∙ sym (ap string_bytes text)) may, (cc same))
 
     -- what stands by the grammar, after what was asked, and in which source
     pub first_refusal : IsTextError e → (asked : List Asked) × (source : List ℕ) × (f : Fault) × AreAllowed allows asked × RefusalOf limit allow src asked source f × NamesText source f × IsErrorOf source f e

@@ -1,5 +1,5 @@
 -- An element is among the top nodes of a document.
-use Rattle.std.proofs.Common.{◌≡◌, ℕ, ◌+◌, ◌<◌, Bool, List, [], ◌∷◌, length, None, true, false, refl, ap, subst, arith, length-append}
+use Rattle.std.proofs.Common.{◌≡◌, ℕ, ◌+◌, ◌<◌, Bool, List, [], ◌∷◌, length, None, true, false, ap, subst, arith, length-append}
 use Rattle.rox_grammar.specs.Forest.{Forest, Nil, Cons, size}
 use Rattle.rox_grammar.specs.Written as written
 use Rattle.rox_grammar.specs.Written.{NamespaceDecl}
@@ -10,7 +10,7 @@ use Rattle.rox_theory.proofs.Apart.{parse_has}
 use Rattle.rox_theory.proofs.ParseParts.{tree_parts}
 use Rattle.rox_grammar.specs.Doctype.{Asked}
 use Rattle.roxmltree.specs.DocumentView.{DocumentView}
-use Rattle.roxmltree.specs.Places.{places, preorder, place, first, parent, ids, children}
+use Rattle.roxmltree.specs.Places.{preorder, place, first, parent, ids, children}
 use Rattle.roxmltree.specs.NodeParts.{is_element_node}
 use Rattle.roxmltree.specs.NodeRef.{node_refs}
 use Rattle.roxmltree.specs.Elements.{nearest_element}
@@ -44,8 +44,7 @@ nearest_after d i xs e h = rw e at h
 none_among : (d : DocumentView) (up left : List ℕ) (b : ℕ) (f : Forest Node) → Sits (preorder d.tree) up left b f → HasElement f → nearest_element (node_refs d (ids b f)) ≡ None → ⊥
 unfolding place
 none_among d up left b Nil s h e = h
-none_among d up left b (Cons (Element start end namespace local listed attributes) c r) s h e =
-    nearest_here d b (ids (b + (1 + size c)) r) (ap (λ p. is_element_node p.item) s.0) e
+none_among d up left b (Cons (Element start end namespace local listed attributes) c r) s h e = cc
 none_among d up left b (Cons (Root end) c r) s h e =
     none_among d up (b ∷ left) (b + (1 + size c)) r s.3 h (nearest_after d b (ids (b + (1 + size c)) r) (ap (λ p. is_element_node p.item) s.0) e)
 none_among d up left b (Cons (Text start end value borrowed) c r) s h e =
@@ -58,8 +57,7 @@ none_among d up left b (Cons (PI start end target value) c r) s h e =
 -- a tree stands in its own preorder list
 pub whole_sits : (f : Forest Node) → Sits (preorder f) [] [] 0 f
 unfolding preorder
-whole_sits f =
-    sits (places [] [] 0 f) [] [] 0 f (λ k m. let e : 0 + k ≡ k = omega arith in rw e refl) (omega (arith, length-places [] [] 0 f))
+whole_sits f = grind (arith, sits, length-places)
 
 -- the root node has all nodes below it, and no other has none above it
 root_sits : (n : ℕ) (f : Forest Node) (d : IsDocument n f) → Sits (preorder f) [] [] 0 (Cons (Root n) d.tops Nil)
@@ -84,8 +82,7 @@ pub root_element_there : (d : DocumentView) (n : ℕ) → IsDocument n d.tree �
 unfolding place
 root_element_there d n w h =
     let s = root_sits n d.tree w in
-    let c : children d.tree 0 ≡ ids 1 w.tops = ap (λ p. p.children) s.0 in
-    none_among d (0 ∷ []) [] 1 w.tops s.2 w.element (rw c at h)
+    none_among d (0 ∷ []) [] 1 w.tops s.2 w.element (rw (ap (λ p. p.children) s.0) at h)
 
 -- an element is one still with the names resolved
 element_stays : (above : List NamespaceDecl) (f : Forest written.Item) → AnyElement f → HasElement (resolved above f)

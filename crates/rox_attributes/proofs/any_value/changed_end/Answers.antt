@@ -1,4 +1,4 @@
-use Rattle.std.proofs.Common.{rules, ◌≡◌, ◌<◌, ℕ, List, false, get_or, refl, ap, ◌∙◌, arith}
+use Rattle.std.proofs.Common.{◌≡◌, ◌<◌, ℕ, List, false, get_or, refl, ap, ◌∙◌, arith}
 use Rattle.std.proofs.lemmas.Bool.{ne_eqb}
 use Rattle.rox_scan.specs.Lookahead.{ends_value}
 use Rattle.rox_attributes.proofs.SpacedEnds.{spaced_near, spaced_on}
@@ -8,9 +8,6 @@ pub loop-end-init : goal.loop-end-init
 loop-end-init c =
     let n = c.skip_set-end.ensures in
     record { looked = spaced_near c.args.text.now c.args.quote c.args.start _ c.utf8.text c.requires.quote c.requires.cut n.onward n.within n.passes n.stops }
-
-pub after_char-next-requires : goal.after_char-next-requires
-after_char-next-requires c = record { cut = c.loop-end.invariant.looked.cut; within = search rules }
 
 pub loop-end-preserved : goal.loop-end-preserved
 loop-end-preserved c =
@@ -24,12 +21,3 @@ loop-end-preserved c =
     let here : ends_value c.args.quote src j ≡ false = rw (other, no_tag) refl in
     let some : j < c.after_char-next.result = omega (arith, a.onward, c.if-next-end.false) in
     record { looked = spaced_on src c.args.quote c.args.start j _ _ c.utf8.text c.requires.quote c.requires.cut c.loop-end.invariant.looked some a.cut a.chars a.wide here n.onward n.within n.passes n.stops }
-
-pub returns-after-loop-end : goal.returns-after-loop-end
-returns-after-loop-end c = c.loop-end.invariant.looked
-
-pub returns-then-here-quote : goal.returns-then-here-quote
-returns-then-here-quote c = c.loop-end.invariant.looked
-
-pub returns-then-next-end : goal.returns-then-next-end
-returns-then-next-end c = c.loop-end.invariant.looked

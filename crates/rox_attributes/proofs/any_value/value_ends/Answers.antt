@@ -35,10 +35,9 @@ returns c =
     let found = rw (c.range.ensures.value ∙ from_start src end) at c.change_from-first.ensures in
     let g = ends_before src near first end rest.cut.0 found in
     let low = f.onward in
-    let high = found.onward in
     let looked = λ (before : first < end).
     spaced_looked src c.args.quote c.args.start near first end c.utf8.text c.requires.quote c.requires.cut f.onward f.within f.passes
-    rest high before (stretch_special _ (g.stops before)) in
+    rest found.onward before (stretch_special _ (g.stops before)) in
     record {
       plain = λ past. record {
         looked = plain_looked src c.args.quote c.args.start near first end c.utf8.text c.requires.quote c.requires.cut f.onward f.within f.passes

@@ -1,13 +1,7 @@
-use Rattle.std.proofs.Common.{◌-◌, refl, arith}
+use Rattle.std.proofs.Common.{refl, arith}
 use Rattle.rox_grammar.specs.Failures.{name_view}
 use Rattle.rox_verbatim.proofs.Verbatim.{attribute_reads}
 use Rattle.rox_attributes.proofs.quick_attribute.any_attribute.Goals as goal
-
-pub quote_before-quote-requires : goal.quote_before-quote-requires
-quote_before-quote-requires c = grind arith
-
-pub any_value-requires : goal.any_value-requires
-any_value-requires c = record { cut = (c.any_value_start-from.ensures (omega arith)).cut; quote = c.quote_before-quote.ensures.quote }
 
 pub returns : goal.returns
 returns c =

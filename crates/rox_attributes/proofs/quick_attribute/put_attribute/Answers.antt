@@ -1,6 +1,6 @@
 use Rattle.std.proofs.Common.{◌+◌, ◌≤◌, subst, arith}
 use Rattle.std.specs.Str.{IsCharBoundary}
-use Rattle.rox_bytes.specs.ByteSets.{EndsSet, is_part_byte, is_value_byte}
+use Rattle.rox_bytes.specs.ByteSets.{EndsSet, is_value_byte}
 use Rattle.rox_bytes.proofs.NearLemmas.{part_stops}
 use Rattle.rox_verbatim.proofs.Verbatim.{behind_quote, ascii_begins, quote_first}
 use Rattle.rox_attributes.proofs.quick_attribute.put_attribute.Goals as goal
@@ -16,9 +16,8 @@ value_in_window-requires c =
     let place = window.place in
     let few : c.part_count-count.result + 2 ≤ 16 = omega (arith, c.if-count-gt-MOST_NAME.false) in
     let near = c.part_count-count.ensures src window.sees (omega (arith, few)) in
-    let name : EndsSet is_part_byte src c.args.start n = rw place at near in
     let seen = c.quote_in_text-quote.ensures (omega arith) in
-    let first = quote_first src c.args.start n c.quote_in_text-quote.result name seen in
+    let first = quote_first src c.args.start n c.quote_in_text-quote.result (rw place at near) seen in
     record {
       seen = record {
         sees = window.sees;
@@ -31,6 +30,3 @@ value_in_window-requires c =
         quote = seen.quote;
       };
     }
-
-pub put_named_attribute-requires : goal.put_named_attribute-requires
-put_named_attribute-requires c = grind arith

@@ -8,6 +8,3 @@ name_without_prefix-name-requires c = grind (arith, part_stops, ascii_begins)
 
 pub unchanged_value-requires : goal.unchanged_value-requires
 unchanged_value-requires c = grind (arith, behind_quote)
-
-pub put_named_attribute-requires : goal.put_named_attribute-requires
-put_named_attribute-requires c = grind arith

@@ -34,8 +34,7 @@ returns c =
     let here : slice_index src (s - 1) ≡ q = ap (slice_index src) (omega arith) ∙ there in
     let done = c.after_byte.ensures.place in
     let onward = w.onward in
-    let fits = w.cut.0 in
-    let long = range_length src s j onward fits in
+    let long = range_length src s j onward w.cut.0 in
     let size = ap length w.is in
     let inside = c.requires.named.inside in
     let short = c.requires.put.short in
@@ -50,7 +49,6 @@ returns c =
       placed = omega arith;
     } in
     let b = c.args.read.before in
-    let parts = c.requires.local in
     let compact : CompactAttribute = record {
       start = i;
       before = b;
@@ -76,7 +74,7 @@ returns c =
     let space = c.args.read.namespace in
     let put = c.put_compact_attribute.ensures in
     let true = c.if-not-put_compact_attribute.false in
-    let places = compact_are i b (length name.local.now) (length value.now) n s e (sym parts) refl (omega (arith, done, long, size)) in
+    let places = compact_are i b (length name.local.now) (length value.now) n s e (sym c.requires.local) refl (omega (arith, done, long, size)) in
     record {
       put = record {
         added = λ _. record {

@@ -32,9 +32,6 @@ unchanged_value-requires c =
     let v = value_starts c.args.text.now c.in-Some-prefixed_name.name.end c.utf8.text named.inside named.equals named.quote in
     record { cut = v.cut; near = c.skip_set-near.ensures; quote = c.quote_before-quote.ensures.quote }
 
-pub prefix_namespace-requires : goal.prefix_namespace-requires
-prefix_namespace-requires c = grind arith
-
 pub put_named_attribute-requires : goal.put_named_attribute-requires
 put_named_attribute-requires c =
     let named = c.in-Some-prefixed_name.ensures in
@@ -42,9 +39,8 @@ put_named_attribute-requires c =
     let i = c.args.place.start in
     let j = c.args.place.part in
     let near = c.requires.part in
-    let here : slice_index src j ≡ 58 = eqb-true _ _ (sym c.is_at.ensures ∙ c.if-not-is_at.false) in
     let first = c.requires.put.begins in
-    let apart : i ≡ j → ⊥ = λ same. absurd (let last = ap (slice_index src) same in omega (arith, last, here, first)) in
+    let apart : i ≡ j → ⊥ = λ same. absurd (let last = ap (slice_index src) same in omega (arith, last, (eqb-true _ _ (sym c.is_at.ensures ∙ c.if-not-is_at.false)), first)) in
     let onward = near.onward in
     let size = ap length named.prefix ∙ range_length src i j onward near.within in
     let some = some_filled c.in-Some-prefixed_name.name.name.prefix.now (omega (arith, onward, apart, size)) in
@@ -55,6 +51,3 @@ put_named_attribute-requires c =
       local = omega (arith, onward, named.local);
       value = first_of (search rules, grind (arith, common_steps));
     }
-
-pub returns : goal.returns
-returns c = grind arith

@@ -26,13 +26,12 @@ character_data_pieces-returns-in_err-raw t c = grind (arith, run_fails)
 pub character_data_pieces-returns-then-raw : goal.character_data_pieces-returns-then-raw
 character_data_pieces-returns-then-raw t c = record {
   value = λ limit end es s declared h.
-      let src = c.args.cursor.now.text.now in
       let b = c.args.builder.now in
       let raw = c.in_ok-raw.raw.text.now in
       let j = c.raw_character_data.new.cursor.pos in
       let plain : is_verbatim raw ≡ true = sym c.in_ok-raw.ensures.verbatim ∙ c.if-raw.true in
       let text : ReadText = record { value = raw; borrowed = true } in
-      rw (plain_run (context_of limit es c.args.context) src s c.args.cursor.now.pos j raw h.here c.in_ok-raw.ensures.read.value plain)
+      rw (plain_run (context_of limit es c.args.context) c.args.cursor.now.text.now s c.args.cursor.now.pos j raw h.here c.in_ok-raw.ensures.read.value plain)
       (parses_too limit end _ _ _ _ _ c.parsed.ensures
       (text_stepped limit end s c.args.cursor.now c.raw_character_data.new.cursor b c.piece.new.self c.piece.result text h c.piece.ensures.kept.tables c.piece.ensures.kept.limit c.piece.ensures.kept.openings_left
       (c.piece.ensures.value end j s h.shows)));
@@ -44,12 +43,11 @@ character_data_pieces-returns-then-raw t c = record {
 pub character_data_pieces-returns : goal.character_data_pieces-returns
 character_data_pieces-returns t c = record {
   value = λ limit end es s declared h.
-      let src = c.args.cursor.now.text.now in
       let raw = c.in_ok-raw.raw.text.now in
       let j = c.raw_character_data.new.cursor.pos in
       let same = ap (λ t. t.now) c.in_ok-raw.ensures.read.source in
       let other : is_verbatim raw ≡ false = sym c.in_ok-raw.ensures.verbatim ∙ c.if-raw.false in
-      rw (parted_run (context_of limit es c.args.context) src s c.args.cursor.now.pos j raw h.here c.in_ok-raw.ensures.read.value other, ← same)
+      rw (parted_run (context_of limit es c.args.context) c.args.cursor.now.text.now s c.args.cursor.now.pos j raw h.here c.in_ok-raw.ensures.read.value other, ← same)
       (c.data_parts.ensures.value limit end es s declared (record { here = h.here; limit_is = h.limit_is; shows = h.shows; namespaces = h.namespaces; attributes = h.attributes; openings_left_is = h.openings_left_is }));
   goes = search rules;
 }
@@ -102,9 +100,8 @@ data_parts-returns-in_err-open_text-in-Some t c = record {
       let context = context_of limit es c.args.context in
       let n = length src - c.loop-turn._turn in
       let one : n ≡ suc (n - 1) = omega arith in
-      let s0 = ap (λ t. t.now) c.loop-turn.invariant.source in
       let g = c.loop-turn.invariant.reads limit end es s declared h in
-      let part = rw (s0, c.in-Some.is) at (c.in_ok-text.ensures.value limit end es g.s declared g.sees) in
+      let part = rw ((ap (λ t. t.now) c.loop-turn.invariant.source), c.in-Some.is) at (c.in_ok-text.ensures.value limit end es g.s declared g.sees) in
       let p = err_from_is_err_and c.from_residual-in_err-open_text-in-Some.result c.from_residual-in_err-open_text-in-Some.ensures.1 in
       rw (p.1, p.2) (parting_stops context end src c.args.start c.args.stop _ n (n - 1) c.loop-turn.cursor c.loop-turn.builder part.0 (replacement_view c.in-Some.text) c.part_piece.new.cursor.pos c.in_err-open_text-in-Some.field-0.0 g one part.1
       (c.in_err-open_text-in-Some.ensures.value limit end es part.0 declared part.2));
@@ -117,11 +114,9 @@ data_parts-returns-in-None t c = record {
       let src = c.args.cursor.now.text.now in
       let context = context_of limit es c.args.context in
       let n = length src - c.loop-turn._turn in
-      let one : n ≡ suc (n - 1) = omega arith in
-      let s0 = ap (λ t. t.now) c.loop-turn.invariant.source in
       let g = c.loop-turn.invariant.reads limit end es s declared h in
-      let part = rw (s0, c.in-None.is) at (c.in_ok-text.ensures.value limit end es g.s declared g.sees) in
-      parting_ends context end src c.args.start c.args.stop _ n (n - 1) c.loop-turn.cursor _ c.loop-turn.builder c.part_piece.new.builder part.0 g one part.1 part.2 refl;
+      let part = rw ((ap (λ t. t.now) c.loop-turn.invariant.source), c.in-None.is) at (c.in_ok-text.ensures.value limit end es g.s declared g.sees) in
+      parting_ends context end src c.args.start c.args.stop _ n (n - 1) c.loop-turn.cursor _ c.loop-turn.builder c.part_piece.new.builder part.0 g (omega arith) part.1 part.2 refl;
   goes = search rules;
 }
 
@@ -134,9 +129,8 @@ data_parts-loop-turn-preserved t c = record {
       let context = context_of limit es c.args.context in
       let n = length src - c.loop-turn._turn in
       let one : n ≡ suc (length src - (c.loop-turn._turn + 1)) = omega arith in
-      let s0 = ap (λ t. t.now) c.loop-turn.invariant.source in
       let g = c.loop-turn.invariant.reads limit end es s declared h in
-      let part = rw (s0, c.in-Some.is) at (c.in_ok-text.ensures.value limit end es g.s declared g.sees) in
+      let part = rw ((ap (λ t. t.now) c.loop-turn.invariant.source), c.in-Some.is) at (c.in_ok-text.ensures.value limit end es g.s declared g.sees) in
       let text = replacement_view c.in-Some.text in
       let after = c.part_piece.new.cursor.pos in
       let opened = c.in_ok-open_text-in-Some.ensures.value limit end es part.0 declared part.2 in
@@ -198,8 +192,7 @@ open_other_text-returns-in-Err t c = record {
       let k = b.opened.ok.0 in
       let deep = opened_depth limit end s b h in
       let base : c.len.result ≡ depth_of s.stack = omega arith in
-      let text = replacement_view c.args.text in
-      let read = rw (w, base) at (c.in-Err.ensures.value limit end es (inner_state text s c.in_ok-within.inner) (rw w declared)
+      let read = rw (w, base) at (c.in-Err.ensures.value limit end es (inner_state (replacement_view c.args.text) s c.in_ok-within.inner) (rw w declared)
       (record { limit_is = h.limit_is; shows = same_shows end s.stack s.done b _ h.shows refl refl refl refl refl; namespaces = h.namespaces; attributes = h.attributes; openings_left_is = refl }) refl) in
       rw c.within.ensures
       (opens_refuses limit es c.args.context.depth_left (c.args.context.depth_left - 1) c.args.context.main c.args.text.text c.args.text.pos c.args.after s c.in_ok-within.inner c.in-Err.refused refl (rw h.openings_left_is at c.in_ok-within.ensures.value) read);
@@ -210,9 +203,8 @@ pub content_text-returns-then-is_at_end : goal.content_text-returns-then-is_at_e
 content_text-returns-then-is_at_end t c = record {
   value = λ limit end es s declared h at.
       let src = c.args.text.text.now in
-      let s0 = ap (λ t. t.now) c.loop-turn.invariant.source in
       let g = c.loop-turn.invariant.reads limit end es s declared h at in
-      let past : length src ≤ g.s.at = rw (s0, g.sees.here) at (leb-true _ _ (sym c.is_at_end.ensures ∙ c.if-is_at_end.true)) in
+      let past : length src ≤ g.s.at = rw ((ap (λ t. t.now) c.loop-turn.invariant.source), g.sees.here) at (leb-true _ _ (sym c.is_at_end.ensures ∙ c.if-is_at_end.true)) in
       text_at_end (context_of limit es c.args.context) end src _ _ c.loop-turn.cursor c.loop-turn.builder c.text_end.result g past (c.text_end.ensures limit end es g.s (rests_of limit end g.s c.loop-turn.cursor c.loop-turn.builder g.sees));
   fine = first_of (search rules, grind (arith, common_steps));
 }
@@ -240,14 +232,13 @@ content_text-loop-turn-preserved t c = record {
   reads = λ limit end es s declared h at.
       let src = c.args.text.text.now in
       let n = length src - c.loop-turn._turn in
-      let one : n ≡ suc (length src - (c.loop-turn._turn + 1)) = omega arith in
       let s0 = ap (λ t. t.now) c.loop-turn.invariant.source in
       let s1 = ap (λ t. t.now) c.quick_markup_of_text.ensures.goes.source ∙ s0 in
       let g = c.loop-turn.invariant.reads limit end es s declared h at in
       let more : g.s.at < length src = rw (s0, g.sees.here) at (leb-false _ _ (sym c.is_at_end.ensures ∙ c.if-is_at_end.false)) in
       let still = (let o = c.quick_markup_of_text.ensures.other c.if-quick_markup_of_text.false in state_kept limit end g.s _ _ _ _ g.sees o.0 o.1) in
       let went = rw s1 at (c.in_ok-step.ensures.value limit end es g.s declared still) in
-      text_on (context_of limit es c.args.context) end src _ n (length src - (c.loop-turn._turn + 1)) c.loop-turn.cursor _ c.loop-turn.builder _ _ g one more went;
+      text_on (context_of limit es c.args.context) end src _ n (length src - (c.loop-turn._turn + 1)) c.loop-turn.cursor _ c.loop-turn.builder _ _ g (omega arith) more went;
 }
 
 pub content_text-loop-turn-preserved-then-quick_markup_of_text : goal.content_text-loop-turn-preserved-then-quick_markup_of_text
@@ -257,13 +248,11 @@ content_text-loop-turn-preserved-then-quick_markup_of_text t c = record {
   reads = λ limit end es s declared h at.
       let src = c.args.text.text.now in
       let context = context_of limit es c.args.context in
-      let n = length src - c.loop-turn._turn in
-      let one : n ≡ suc (length src - (c.loop-turn._turn + 1)) = omega arith in
       let s0 = ap (λ t. t.now) c.loop-turn.invariant.source in
       let g = c.loop-turn.invariant.reads limit end es s declared h at in
       let more : g.s.at < length src = rw (s0, g.sees.here) at (leb-false _ _ (sym c.is_at_end.ensures ∙ c.if-is_at_end.false)) in
       let went = rw s0 at (c.quick_markup_of_text.ensures.value c.if-quick_markup_of_text.true context end g.s refl g.sees) in
-      text_on context end src _ n (length src - (c.loop-turn._turn + 1)) c.loop-turn.cursor _ c.loop-turn.builder _ tt g one more went;
+      text_on context end src _ (length src - c.loop-turn._turn) (length src - (c.loop-turn._turn + 1)) c.loop-turn.cursor _ c.loop-turn.builder _ tt g (omega arith) more went;
 }
 
 pub content_text-returns : goal.content_text-returns

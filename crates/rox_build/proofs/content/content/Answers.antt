@@ -19,9 +19,8 @@ returns-then-is_at_root c = record {
   value = λ limit end es s declared sees.
       let src = c.args.cursor.now.text.now in
       let context = context_of limit es c.args.context in
-      let s0 = ap (λ t. t.now) c.loop-turn.invariant.source in
       let g0 = c.loop-turn.invariant.reads limit end es s declared sees in
-      let read = rw s0 at (c.quick_constructs-read.ensures.value context end g0.s refl refl g0.sees) in
+      let read = rw (ap (λ t. t.now) c.loop-turn.invariant.source) at (c.quick_constructs-read.ensures.value context end g0.s refl refl g0.sees) in
       let g = drives_past context end src _ c.loop-turn._turn read.0 _ _ _ _ g0 c.args.cursor.now.utf8 read.1 in
       drive_done context end src _ _ _ _ g (sym (c.is_at_root.ensures end g.s.stack g.s.done g.sees.shows) ∙ c.if-is_at_root.true);
   goes = search rules;
@@ -48,13 +47,11 @@ loop-turn-preserved-then-rows_left-lt2 c = record {
   source = c.quick_constructs-read.ensures.goes.source ∙ c.loop-turn.invariant.source;
   fine = fine_open c.quick_constructs-read.new.builder c.make_room.new.self c.make_room.ensures.kept c.quick_constructs-read.ensures.goes.fine;
   reads = λ limit end es s declared sees.
-      let src = c.args.cursor.now.text.now in
       let moved : c.loop-turn.cursor.pos < c.quick_constructs-read.new.cursor.pos = search rules in
       let context = context_of limit es c.args.context in
-      let s0 = ap (λ t. t.now) c.loop-turn.invariant.source in
       let g0 = c.loop-turn.invariant.reads limit end es s declared sees in
-      let read = rw s0 at (c.quick_constructs-read.ensures.value context end g0.s refl refl g0.sees) in
-      let g = drives_past context end src _ c.loop-turn._turn read.0 _ _ _ _ g0 c.args.cursor.now.utf8 read.1 in
+      let read = rw (ap (λ t. t.now) c.loop-turn.invariant.source) at (c.quick_constructs-read.ensures.value context end g0.s refl refl g0.sees) in
+      let g = drives_past context end c.args.cursor.now.text.now _ c.loop-turn._turn read.0 _ _ _ _ g0 c.args.cursor.now.utf8 read.1 in
       record {
         s = g.s;
         sees = rows_kept limit end g.s _ c.quick_constructs-read.new.builder c.make_room.new.self c.make_room.ensures g.sees;

@@ -20,9 +20,6 @@ less_than src xs i at e here is = ap (λ (k : ℕ). slice_index src k) (sym here
 pub returns-then-is_at_end : goal.returns-then-is_at_end
 returns-then-is_at_end c = grind (arith, nothing, no_body)
 
-pub root_start-requires : goal.root_start-requires
-root_start-requires c = grind arith
-
 pub returns-in_err-root_start : goal.returns-in_err-root_start
 returns-in_err-root_start c = record {
   value = λ limit end es s declared sees.
@@ -36,22 +33,18 @@ returns-in_err-root_start c = record {
   goes = let p = err_from_is_err_and c.from_residual.result c.from_residual.ensures.1 in rw p.1 tt;
 }
 
-pub content-requires : goal.content-requires
-content-requires c = record { fine = c.in_ok-root_start.ensures.goes.fine }
-
 pub returns-in_err-content : goal.returns-in_err-content
 returns-in_err-content c = record {
   value = λ limit end es s declared sees.
       let src = c.args.cursor.now.text.now in
       let w = context_of limit es c.main_text-context.result in
-      let main : w ≡ main_text limit es = ap (context_of limit es) c.main_text-context.ensures in
       let held : AreDeclared es c.main_text-context.result.entities.now = subst (λ (h : Context). AreDeclared es h.entities.now) (sym c.main_text-context.ensures) declared in
       let here = less_than src _ _ s.at c.as_bytes.ensures.value sees.here c.if-as_bytes-cursor-ne60.false in
       let s1 = ap (λ t. t.now) c.in_ok-root_start.ensures.goes.source in
       let e1 = c.in_ok-root_start.ensures.value limit end es s held sees in
       let q = err_from_is_err_and c.from_residual-in_err-content.result c.from_residual-in_err-content.ensures.1 in
       let fails : IsRefusal c.in_err-content.field-0.0 (drive w (length src) src e1.0) = subst (λ (x : List ℕ). IsRefusal c.in_err-content.field-0.0 (drive w (length x) x e1.0)) s1 (c.in_err-content.ensures.value limit end es e1.0 held e1.2) in
-      rw (q.1, q.2) (content_fails_body limit es w src s e1.0 c.in_err-content.field-0.0 main here e1.1 fails);
+      rw (q.1, q.2) (content_fails_body limit es w src s e1.0 c.in_err-content.field-0.0 (ap (context_of limit es) c.main_text-context.ensures) here e1.1 fails);
   goes = let p = err_from_is_err_and c.from_residual-in_err-content.result c.from_residual-in_err-content.ensures.1 in rw p.1 tt;
 }
 
@@ -60,7 +53,6 @@ returns-in_err-misc c = record {
   value = λ limit end es s declared sees.
       let src = c.args.cursor.now.text.now in
       let w = context_of limit es c.main_text-context.result in
-      let main : w ≡ main_text limit es = ap (context_of limit es) c.main_text-context.ensures in
       let held : AreDeclared es c.main_text-context.result.entities.now = subst (λ (h : Context). AreDeclared es h.entities.now) (sym c.main_text-context.ensures) declared in
       let here = less_than src _ _ s.at c.as_bytes.ensures.value sees.here c.if-as_bytes-cursor-ne60.false in
       let s1 = ap (λ t. t.now) c.in_ok-root_start.ensures.goes.source in
@@ -70,7 +62,7 @@ returns-in_err-misc c = record {
       let inner : drive w (length src) src e1.0 ≡ Ok e2.0 = subst (λ (x : List ℕ). drive w (length x) x e1.0 ≡ Ok e2.0) s1 e2.1 in
       let q = err_from_is_err_and c.from_residual-in_err-misc.result c.from_residual-in_err-misc.ensures.1 in
       let fails : IsFailure c.in_err-misc.field-0.0 (lifted (misc limit (length src) src e2.0)) = subst (λ (x : List ℕ). IsFailure c.in_err-misc.field-0.0 (lifted (misc limit (length x) x e2.0))) s2 (c.in_err-misc.ensures.value limit end e2.0 e2.2) in
-      rw (q.1, q.2) (misc_fails_body limit es w src s e1.0 e2.0 c.in_err-misc.field-0.0 main here e1.1 inner fails);
+      rw (q.1, q.2) (misc_fails_body limit es w src s e1.0 e2.0 c.in_err-misc.field-0.0 (ap (context_of limit es) c.main_text-context.ensures) here e1.1 inner fails);
   goes = let p = err_from_is_err_and c.from_residual-in_err-misc.result c.from_residual-in_err-misc.ensures.1 in rw p.1 tt;
 }
 
@@ -79,7 +71,6 @@ returns c = record {
   value = λ limit end es s declared sees.
       let src = c.args.cursor.now.text.now in
       let w = context_of limit es c.main_text-context.result in
-      let main : w ≡ main_text limit es = ap (context_of limit es) c.main_text-context.ensures in
       let held : AreDeclared es c.main_text-context.result.entities.now = subst (λ (h : Context). AreDeclared es h.entities.now) (sym c.main_text-context.ensures) declared in
       let here = less_than src _ _ s.at c.as_bytes.ensures.value sees.here c.if-as_bytes-cursor-ne60.false in
       let s1 = ap (λ t. t.now) c.in_ok-root_start.ensures.goes.source in
@@ -89,6 +80,6 @@ returns c = record {
       let inner : drive w (length src) src e1.0 ≡ Ok e2.0 = subst (λ (x : List ℕ). drive w (length x) x e1.0 ≡ Ok e2.0) s1 e2.1 in
       let e3 = c.in_ok-misc.ensures.value limit end e2.0 e2.2 in
       let after : lifted (misc limit (length src) src e2.0) ≡ Ok e3.0 = subst (λ (x : List ℕ). lifted (misc limit (length x) x e2.0) ≡ Ok e3.0) s2 e3.1 in
-      (e3.0, a_body limit es w src s e1.0 e2.0 e3.0 main here e1.1 inner after, e3.2);
+      (e3.0, a_body limit es w src s e1.0 e2.0 e3.0 (ap (context_of limit es) c.main_text-context.ensures) here e1.1 inner after, e3.2);
   goes = record { source = c.in_ok-misc.ensures.goes.source ∙ c.in_ok-content.ensures.goes.source ∙ c.in_ok-root_start.ensures.goes.source; fine = c.in_ok-misc.ensures.goes.fine };
 }

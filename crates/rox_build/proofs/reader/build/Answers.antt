@@ -24,7 +24,6 @@ sees_begun end c b begun = record { here = refl; limit_is = refl; shows = begun.
 
 pub returns-in_err-dtd-clause-refused : goal.returns-in_err-dtd-clause-refused
 returns-in_err-dtd-clause-refused g c =
-    let allows = Allows g.R.EntityResolver.allows c.args.resolver.now in
     let limit = c.args.builder.now.nodes_limit in
     let src = c.args.text.now in
     let cursor = c.start_of-cursor in
@@ -32,16 +31,15 @@ returns-in_err-dtd-clause-refused g c =
     let sees = sees_begun (length src) cursor.result c.args.builder.now c.requires.begun in
     let q = err_from_is_err_and c.from_residual.result c.from_residual.ensures.1 in
     let x = rw same at (c.in_err-dtd.ensures.value limit (length src) (cursor.ensures.place ∙ ap after_bom (sym same)) sees) in
-    rw (q.1, q.2) (refusal_of limit c.args.allow allows src x.0 c.in_err-dtd.field-0.0 x.1 x.2)
+    rw (q.1, q.2) (refusal_of limit c.args.allow (Allows g.R.EntityResolver.allows c.args.resolver.now) src x.0 c.in_err-dtd.field-0.0 x.1 x.2)
 
 pub returns-clause-ok : goal.returns-clause-ok
 returns-clause-ok g c =
-    let limit = c.args.builder.now.nodes_limit in
     let src = c.args.text.now in
     let cursor = c.start_of-cursor in
     let same = ap (λ t. t.now) cursor.ensures.source in
     let sees = sees_begun (length src) cursor.result c.args.builder.now c.requires.begun in
-    let x = rw same at (c.in_ok-dtd.ensures.value limit (length src) (cursor.ensures.place ∙ ap after_bom (sym same)) sees) in
+    let x = rw same at (c.in_ok-dtd.ensures.value c.args.builder.now.nodes_limit (length src) (cursor.ensures.place ∙ ap after_bom (sym same)) sees) in
     record {
       asked = x.0;
       allowed = x.1.allowed;

@@ -11,8 +11,7 @@ use Rattle.rox_prolog.specs.Requests.{Allows}
 use Rattle.rox_prolog.specs.PrologParts.{start_state, beginning}
 use Rattle.rox_prolog.proofs.Asking.{none_given, stops_by}
 use Rattle.rox_values.proofs.Lifting.{lifted_ok}
-use Rattle.rox_prolog.proofs.Rooted.{misc_open}
-use Rattle.rox_prolog.proofs.Rooted.{doctype_open}
+use Rattle.rox_prolog.proofs.Rooted.{misc_open, doctype_open}
 use Rattle.rox_prolog.proofs.Prologs.{beginning_fails, beginning_parts, told}
 use Rattle.rox_build.proofs.Documents.{root_fails, root_ends}
 use Rattle.rox_build.proofs.reader.document.Goals as goal
@@ -39,17 +38,15 @@ returns-in_err-prolog_start g c = record {
 pub returns-in_err-dtd : goal.returns-in_err-dtd
 returns-in_err-dtd g c = record {
   value = λ limit end here sees.
-      let allows = Allows g.R.EntityResolver.allows c.args.resolver.now in
       let q = err_from_is_err_and c.from_residual-in_err-dtd.result c.from_residual-in_err-dtd.ensures.1 in
       let src = c.args.cursor.now.text.now in
       let l = c.in_ok-prolog_start.ensures.value limit end here sees in
-      let same = ap (λ t. t.now) c.in_ok-prolog_start.ensures.goes.source in
-      let x = rw same at (c.in_err-dtd.ensures.value limit end (undeclared l.0) l.2 c.new-entities.ensures) in
+      let x = rw (ap (λ t. t.now) c.in_ok-prolog_start.ensures.goes.source) at (c.in_err-dtd.ensures.value limit end (undeclared l.0) l.2 c.new-entities.ensures) in
       beginning_parts limit src l.0 (lifted_ok (beginning limit src) l.0 l.1) (λ i is before. (
         x.0,
         x.1,
         rw (q.1, q.2)
-            (stops_by allows (doctype_run limit c.args.allow src (undeclared l.0)) (whole_run limit c.args.allow src) x.0 x.0
+            (stops_by (Allows g.R.EntityResolver.allows c.args.resolver.now) (doctype_run limit c.args.allow src (undeclared l.0)) (whole_run limit c.args.allow src) x.0 x.0
             (λ f k. whole_doctype_stops limit c.args.allow src i is l.0 before x.0 f k) c.in_err-dtd.field-0.0 x.2),
       ));
   fine = let p = err_from_is_err_and c.from_residual-in_err-dtd.result c.from_residual-in_err-dtd.ensures.1 in rw p.1 tt;
@@ -65,10 +62,9 @@ returns-in_err-rest g c = record {
       let same = ap (λ t. t.now) c.in_ok-prolog_start.ensures.goes.source in
       let x = rw same at (c.in_ok-dtd.ensures.value limit end (undeclared l.0) l.2 c.new-entities.ensures) in
       let d = x.2.read.dtd in
-      let text = ap (λ t. t.now) c.in_ok-dtd.ensures.goes.source ∙ same in
       beginning_parts limit src l.0 (lifted_ok (beginning limit src) l.0 l.1) (λ i is before.
       let none = top limit c.args.allow src i l.0 x.0 d before x.2.read.answered in
-      let k = rw text at (c.in_err-rest.ensures.value limit end d.entities d.state x.2.read.declared x.2.read.sees none) in
+      let k = rw (ap (λ t. t.now) c.in_ok-dtd.ensures.goes.source ∙ same) at (c.in_err-rest.ensures.value limit end d.entities d.state x.2.read.declared x.2.read.sees none) in
       (x.0, x.1, rw (q.1, q.2) (root_fails limit c.args.allow src i is l.0 before x.0 d x.2.read.answered allows c.in_err-rest.field-0.0 k)));
   fine = let p = err_from_is_err_and c.from_residual-in_err-rest.result c.from_residual-in_err-rest.ensures.1 in rw p.1 tt;
 }
@@ -81,11 +77,10 @@ returns g c = record {
       let same = ap (λ t. t.now) c.in_ok-prolog_start.ensures.goes.source in
       let x = rw same at (c.in_ok-dtd.ensures.value limit end (undeclared l.0) l.2 c.new-entities.ensures) in
       let d = x.2.read.dtd in
-      let text = ap (λ t. t.now) c.in_ok-dtd.ensures.goes.source ∙ same in
       let begun = lifted_ok (beginning limit src) l.0 l.1 in
       beginning_parts limit src l.0 begun (λ i is before.
       let none = top limit c.args.allow src i l.0 x.0 d before x.2.read.answered in
-      let k = rw text at (c.in_ok-rest.ensures.value limit end d.entities d.state x.2.read.declared x.2.read.sees none) in (
+      let k = rw (ap (λ t. t.now) c.in_ok-dtd.ensures.goes.source ∙ same) at (c.in_ok-rest.ensures.value limit end d.entities d.state x.2.read.declared x.2.read.sees none) in (
         x.0,
         x.1,
         record { tops = k.0; read = root_ends limit c.args.allow src i is l.0 before x.0 d x.2.read.answered k.0 k.1; told = x.2.told ∙ sym (told limit src l.0 begun); shows = k.2 },

@@ -21,8 +21,7 @@ returns-then-not-is_at_end c = record {
   value = λ limit end es s declared sees top.
       let src = c.args.cursor.now.text.now in
       let k = c.in_ok-some.ensures.value limit end es s declared sees in
-      let same = ap (λ t. t.now) c.in_ok-some.ensures.goes.source in
-      let more : k.0.at < length src = rw (same, k.2.here) at (leb-false _ _ (sym c.is_at_end.ensures ∙ c.if-not-is_at_end.true)) in
+      let more : k.0.at < length src = rw ((ap (λ t. t.now) c.in_ok-some.ensures.goes.source), k.2.here) at (leb-false _ _ (sym c.is_at_end.ensures ∙ c.if-not-is_at_end.true)) in
       rw k.2.here (more_stands limit es src s k.0 _ k.1 more);
   goes = first_of (search rules, grind (arith, common_steps));
 }
@@ -32,8 +31,7 @@ returns-then-not-some c = record {
   value = λ limit end es s declared sees top.
       let src = c.args.cursor.now.text.now in
       let k = c.in_ok-some.ensures.value limit end es s declared sees in
-      let same = ap (λ t. t.now) c.in_ok-some.ensures.goes.source in
-      let all : length src ≤ k.0.at = rw (same, k.2.here) at (leb-true _ _ (sym c.is_at_end.ensures ∙ c.if-not-is_at_end.false)) in
+      let all : length src ≤ k.0.at = rw ((ap (λ t. t.now) c.in_ok-some.ensures.goes.source), k.2.here) at (leb-true _ _ (sym c.is_at_end.ensures ∙ c.if-not-is_at_end.false)) in
       no_element limit es src s k.0 _ k.1 all c.if-not-some.true;
   goes = first_of (search rules, grind (arith, common_steps));
 }
@@ -43,8 +41,7 @@ returns c = record {
   value = λ limit end es s declared sees top.
       let src = c.args.cursor.now.text.now in
       let k = c.in_ok-some.ensures.value limit end es s declared sees in
-      let same = ap (λ t. t.now) c.in_ok-some.ensures.goes.source in
-      let all : length src ≤ k.0.at = rw (same, k.2.here) at (leb-true _ _ (sym c.is_at_end.ensures ∙ c.if-not-is_at_end.false)) in
+      let all : length src ≤ k.0.at = rw ((ap (λ t. t.now) c.in_ok-some.ensures.goes.source), k.2.here) at (leb-true _ _ (sym c.is_at_end.ensures ∙ c.if-not-is_at_end.false)) in
       let none : k.0.stack ≡ root = body_open limit es src s k.0 _ top k.1 in
       (k.0.done, an_element limit es src s k.0 _ k.1 all c.if-not-some.false, subst (λ (o : Open). Represents end o k.0.done c.body.new.builder) none k.2.shows);
   goes = first_of (search rules, grind (arith, common_steps));

@@ -1,4 +1,3 @@
-use Rattle.std.proofs.Common.{arith}
 use Rattle.rox_values.specs.Contexts.{context_of}
 use Rattle.rox_build.proofs.reader.root_start.Goals as goal
 
@@ -7,6 +6,3 @@ returns-in-Read c = record {
   value = λ limit end es s declared sees. c.root_element.ensures.value c.in-Read.is (context_of limit es c.args.context) end s sees;
   goes = c.root_element.ensures.goes (λ is. absurd (cc (is, c.in-Read.is)));
 }
-
-pub returns-in-NotRead : goal.returns-in-NotRead
-returns-in-NotRead c = grind arith

@@ -1,11 +1,10 @@
-use Rattle.std.proofs.Common.{◌<◌, ◌+◌, arith}
+use Rattle.std.proofs.Common.{◌+◌, arith}
 use Rattle.rox_bytes.proofs.LaneLemmas.{ends_on, first_seen, none_seen}
 use Rattle.rox_bytes.proofs.byte_set.bytes_end.Goals as goal
 
 pub returns-then-others-ne0 : goal.returns-then-others-ne0
 returns-then-others-ne0 g c =
-    let some : 0 < c.others_at-others.result = omega (arith, c.if-others-ne0.true) in
-    rw c.before_first.ensures (first_seen g.C.ByteSet.test c.args.bytes.now c.args.at c.others_at-others.result c.others_at-others.ensures some)
+    rw c.before_first.ensures (first_seen g.C.ByteSet.test c.args.bytes.now c.args.at c.others_at-others.result c.others_at-others.ensures (omega (arith, c.if-others-ne0.true)))
 
 pub returns : goal.returns
 returns g c =

@@ -1,11 +1,10 @@
-use Rattle.std.proofs.Common.{◌<◌, arith}
-use Rattle.rox_bytes.proofs.LaneLemmas.{ends_on, passes_on, none_seen, first_seen}
+use Rattle.std.proofs.Common.{arith}
+use Rattle.rox_bytes.proofs.LaneLemmas.{passes_on, none_seen, first_seen}
 use Rattle.rox_bytes.proofs.byte_set.bytes_end_beyond.Goals as goal
 
 pub returns-then-others-ne0 : goal.returns-then-others-ne0
 returns-then-others-ne0 g c =
-    let some : 0 < c.others_at-others.result = omega (arith, c.if-others-ne0.true) in
-    let here = first_seen g.C.ByteSet.test c.args.bytes.now c.loop-block.block c.others_at-others.result c.others_at-others.ensures some in
+    let here = first_seen g.C.ByteSet.test c.args.bytes.now c.loop-block.block c.others_at-others.result c.others_at-others.ensures (omega (arith, c.if-others-ne0.true)) in
     rw c.before_first.ensures (record {
       onward = omega (arith, c.loop-block.invariant.onward, here.onward);
       within = here.within;
@@ -22,6 +21,3 @@ loop-block-preserved g c =
       within = omega (arith, seen.within);
       passes = passes_on g.C.ByteSet.test c.args.bytes.now c.args.at c.loop-block.block _ c.loop-block.invariant.passes here;
     }
-
-pub returns : goal.returns
-returns g c = ends_on g.C.ByteSet.test c.args.bytes.now c.args.at c.loop-block.block c.short_end.result c.loop-block.invariant.onward c.loop-block.invariant.passes c.short_end.ensures

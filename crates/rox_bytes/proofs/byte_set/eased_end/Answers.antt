@@ -1,4 +1,4 @@
-use Rattle.std.proofs.Common.{◌<◌, ℕ, List, not, map, ap, ◌∙◌, arith, inl, inr}
+use Rattle.std.proofs.Common.{ℕ, List, not, map, ap, ◌∙◌, arith, inl, inr}
 use Rattle.std.specs.Simd.Lanes.{mask_l}
 use Rattle.std.proofs.lemmas.Bool.{cases_lt}
 use Rattle.rox_bytes.specs.ByteSets.{eased}
@@ -16,8 +16,7 @@ returns-then-others-ne0 g c =
       within = omega (arith, long, c.loop-block-test.true);
       mask = c.others-others.ensures ∙ ap (λ (l : List ℕ). mask_l (map (λ b. not (p b)) l)) c.eased_at.ensures;
     } in
-    let some : 0 < c.others-others.result = omega (arith, c.if-others-ne0.true) in
-    let here = first_seen p (eased src) c.loop-block.block c.others-others.result seen some in
+    let here = first_seen p (eased src) c.loop-block.block c.others-others.result seen (omega (arith, c.if-others-ne0.true)) in
     rw c.before_first-count.ensures (record {
       onward = omega (arith, c.loop-block.invariant.onward, here.onward);
       within = omega (arith, here.within, long);
@@ -32,9 +31,8 @@ pub loop-block-preserved : goal.loop-block-preserved
 loop-block-preserved g c =
     let p = g.C.ByteSet.test in
     let src = c.args.bytes.now in
-    let long = length_eased src in
     let seen : IsSeen p (eased src) c.loop-block.block c.others-others.result = record {
-      within = omega (arith, long, c.loop-block-test.true);
+      within = omega (arith, (length_eased src), c.loop-block-test.true);
       mask = c.others-others.ensures ∙ ap (λ (l : List ℕ). mask_l (map (λ b. not (p b)) l)) c.eased_at.ensures;
     } in
     let here = none_seen p (eased src) c.loop-block.block c.others-others.result seen (omega (arith, c.if-others-ne0.false)) in

@@ -3,9 +3,6 @@ use Rattle.std.proofs.lemmas.Option.{IfSome_then}
 use Rattle.rox_bytes.proofs.LaneLemmas.{ends_on, first_seen, first_there, none_seen}
 use Rattle.rox_bytes.proofs.byte_set.other_in.Goals as goal
 
-pub returns-then-bytes-at-lt16 : goal.returns-then-bytes-at-lt16
-returns-then-bytes-at-lt16 g c = IfSome_then c.some_byte.result c.some_byte.ensures (λ e here. record { ends = rw here.0 c.short_end-end.ensures; there = here.1 })
-
 pub returns-then-others-ne0 : goal.returns-then-others-ne0
 returns-then-others-ne0 g c =
     let some : 0 < c.others_at-others.result = omega (arith, c.if-others-ne0.true) in

@@ -19,15 +19,13 @@ returns g c =
       | inr is ↦ omega (arith, is)
     ] in
     let seen = c.requires.seen some in
-    let few = first_few p src i v j seen some c.requires.stops in
     let onward = c.requires.stops.ends.onward in
     let before = j + 1 - i in
     let at_least : 0 < before = omega (arith, onward) in
-    let at_most : before ≤ 16 = omega (arith, few) in
+    let at_most : before ≤ 16 = omega (arith, (first_few p src i v j seen some c.requires.stops)) in
     let last : j ≡ i + (before - 1) = omega (arith, onward) in
     let opens = subst (EndsSet p src i) last c.requires.stops.ends in
     let is = ap (bit_and v) (less p src i v before seen at_least at_most opens) in
     let ends = (some_left p src i v before seen at_least at_most opens (omega (arith, is, left))).0 in
-    let place : i + before ≡ j + 1 = omega (arith, onward) in
     let end = sym (c.before_first.ensures ∙ ap (trailing_zeros w64) is) in
-    subst (λ n. EndsSet p src (j + 1) (i + n)) end (subst (λ m. EndsSet p src m (i + trailing_zeros w64 (bit_and v (v - 1)))) place ends)
+    subst (λ n. EndsSet p src (j + 1) (i + n)) end (subst (λ m. EndsSet p src m (i + trailing_zeros w64 (bit_and v (v - 1)))) (omega (arith, onward)) ends)

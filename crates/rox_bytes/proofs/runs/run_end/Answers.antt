@@ -12,16 +12,12 @@ use Rattle.rox_bytes.proofs.runs.run_end.Goals as goal
 abbrev Onward : (ℕ → Bool) → List ℕ → (at i : ℕ) → Type 0
 Onward p src at i = IsCharBoundary src i × (at ≤ i) × (run_end p src i ≡ run_end p src at)
 
-ends : (p : ℕ → Bool) (src : List ℕ) (at i : ℕ) → Onward p src at i → run_end p src i ≡ i → Finds src at i (run_end p src at)
-ends p src at i on here = record { place = sym here ∙ on.2; onward = on.1; cut = on.0 }
-
 ascii_on : (p : ℕ → Bool) (src bytes : List ℕ) (at i : ℕ) (r : Bool) → IsUtf8 src → bytes ≡ src → Onward p src at i → i < length bytes → get_or bytes i 0 < 128 → r ≡ p (get_or bytes i 0) → r ≡ true → Onward p src at (i + 1)
 ascii_on p src bytes at i r utf8 same on within ascii is holds =
     let more = subst (λ (xs : List ℕ). i < length xs) same within in
     let small = subst (λ (xs : List ℕ). get_or xs i 0 < 128) same ascii in
     let passes = subst (λ (xs : List ℕ). p (get_or xs i 0) ≡ true) same (sym is ∙ holds) in
-    let onward : at ≤ i + 1 = omega (arith, on.1) in
-    (IsCharBoundary-after_ascii src i utf8 more small, onward, run_on_ascii p src i utf8 more small passes ∙ on.2)
+    (IsCharBoundary-after_ascii src i utf8 more small, (omega (arith, on.1)), run_on_ascii p src i utf8 more small passes ∙ on.2)
 
 ascii_ends : (p : ℕ → Bool) (src bytes : List ℕ) (at i : ℕ) (r : Bool) → IsUtf8 src → bytes ≡ src → Onward p src at i → i < length bytes → get_or bytes i 0 < 128 → r ≡ p (get_or bytes i 0) → r ≡ false → Finds src at i (run_end p src at)
 ascii_ends p src bytes at i r utf8 same on within ascii is fails = grind (arith, run_stops_ascii)
@@ -44,6 +40,3 @@ returns-then-not-has g c = grind (arith, run_stops)
 
 pub returns : goal.returns
 returns g c = grind (arith, run_at_end)
-
-pub char_at-c-requires : goal.char_at-c-requires
-char_at-c-requires g c = record { cut = c.loop-i.invariant.0; within = subst (λ (xs : List ℕ). c.loop-i.i < length xs) c.as_bytes-bytes.ensures.value c.loop-i-test.true }

@@ -1,4 +1,4 @@
-use Rattle.std.proofs.Common.{◌≡◌, Bool, true, false, refl, sym, arith}
+use Rattle.std.proofs.Common.{◌≡◌, Bool, true, false, refl, sym}
 use Rattle.rox_grammar.specs.declared.fault.Fault.TheVariants as fault
 use Rattle.rox_grammar.specs.State.{Open, root, inside, is_root}
 use Rattle.rox_reading.specs.Machine.{cut_off_fault}
@@ -13,12 +13,6 @@ not_at_root : (main : Bool) (o : Open) → main ≡ true → is_root o ≡ false
 not_at_root true root m e = cc e
 not_at_root true (inside s t b up) m e = refl
 not_at_root false o m e = cc m
-
-replaced : (main : Bool) (o : Open) → main ≡ false → fault.UnexpectedEndOfStream ≡ cut_off_fault main o
-replaced main o m = grind arith
-
-pub returns-then-not-context : goal.returns-then-not-context
-returns-then-not-context c = λ end o done sh. replaced c.args.context.main o c.if-not-context.true
 
 pub returns-then-is_at_root : goal.returns-then-is_at_root
 returns-then-is_at_root c = λ end o done sh. at_root c.args.context.main o c.if-not-context.false (sym (c.if-is_at_root.ensures end o done sh))

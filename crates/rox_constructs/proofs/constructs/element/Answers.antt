@@ -1,5 +1,5 @@
 use Rattle.std.specs.Prelude.{OnOk}
-use Rattle.std.proofs.Common.{◌≡◌, ◌++◌, ◌∷◌, [], ℕ, true, false, Bool, refl, sym, ap, subst, ◌∙◌, List, arith}
+use Rattle.std.proofs.Common.{◌≡◌, ◌++◌, ◌∷◌, [], ℕ, true, false, Bool, refl, sym, ap, subst, ◌∙◌, List}
 use Rattle.std.proofs.lemmas.Result.{err_from_is_err_and, on_ok_weaker}
 use Rattle.rox_grammar.specs.Written.{Element, NamespaceDecl}
 use Rattle.rox_grammar.specs.State.{scope_of}
@@ -28,9 +28,6 @@ with_left openings_left s = record { at = s.at; done = s.done; stack = s.stack; 
 
 went : (old new : Cursor) (b : Builder) → new.text ≡ old.text → IsConsistent b.tables b.opened.items → GoesOn old new b
 went old new b source fine = record { source = source; fine = fine }
-
-pub start_tag-requires : goal.start_tag-requires
-start_tag-requires c = grind arith
 
 pub returns-in_err-tag : goal.returns-in_err-tag
 returns-in_err-tag c = record {

@@ -1,6 +1,5 @@
-use Rattle.std.proofs.Common.{◌≡◌, ◌+◌, Bool, true, false, ◌++◌, ◌∷◌, [], ◌-◌, refl, sym, subst, ap, ◌∙◌, List, arith, length, take, Err}
+use Rattle.std.proofs.Common.{◌≡◌, ◌+◌, Bool, true, false, ◌++◌, ◌∷◌, [], ◌-◌, refl, sym, subst, ap, ◌∙◌, List, arith, length, take, Err, slice_get, None, inl, inr}
 use Rattle.std.proofs.lemmas.Bool.{lt-leb, le-leb}
-use Rattle.std.proofs.Common.{slice_get, None, inl, inr}
 use Rattle.std.proofs.lemmas.Option.{slice_get_cases}
 use Rattle.rox_markup.specs.Views.{end_tag_view}
 use Rattle.rox_grammar.specs.NameParts.{same_qname}
@@ -28,15 +27,12 @@ returns-in_err-tag c = grind (arith, end_fails)
 pub returns-then-len-context : goal.returns-then-len-context
 returns-then-len-context c = record {
   value = λ limit end es s h.
-      let src = c.args.cursor.now.text.now in
-      let b = c.args.builder.now in
-      let pos = c.args.cursor.now.pos in
       let j = c.end_tag.new.cursor.pos in
       let t = end_tag_view c.in_ok-tag.tag in
-      let k = opened_deep end s.stack s.done b h.shows in
+      let k = opened_deep end s.stack s.done c.args.builder.now h.shows in
       let l = c.len.ensures in
       let m = c.if-len-context.true in
-      ap lifted (end_below (context_of limit es c.args.context) src s pos j t h.here c.in_ok-tag.ensures.value (le-leb _ _ (omega arith)));
+      ap lifted (end_below (context_of limit es c.args.context) c.args.cursor.now.text.now s c.args.cursor.now.pos j t h.here c.in_ok-tag.ensures.value (le-leb _ _ (omega arith)));
   goes = tt;
 }
 
@@ -84,9 +80,8 @@ returns-then-not-same_qname c = record {
       let o = c.in-Some.open.now in
       let outer = take (length os - 1) os in
       let split : b.opened.items ≡ outer ++ o ∷ [] = sym c.deref.ensures.value ∙ last_split os o k.3.0 (k.3.1 o) in
-      let opened = c.open_name-opened.ensures in
       let closed = c.bytes_of-closed.ensures in
-      let other : same_qname (open_name o) t.name ≡ false = compared _ _ _ _ _ c.same_qname.ensures opened closed ∙ c.if-not-same_qname.true in
+      let other : same_qname (open_name o) t.name ≡ false = compared _ _ _ _ _ c.same_qname.ensures c.open_name-opened.ensures closed ∙ c.if-not-same_qname.true in
       let y = c.name_span-found.ensures ∙ ap (λ (m : Name). name_span m (pos + 2) t.name_end) closed in
       ap lifted (end_is (context_of limit es c.args.context) src s pos j t h.here c.in_ok-tag.ensures.value (let k = opened_deep end s.stack s.done b h.shows in let l = c.len.ensures in let m = c.if-len-context.false in lt-leb _ _ (omega arith))
       ∙ closed_other b.tables s.stack outer o pos t.name_end j t.name s.done s.openings_left c.open_span-expected.result (sym (ap (opened_in b.tables) split) ∙ h.shows.open_rows) other

@@ -17,17 +17,8 @@ returns-then-next-eq63 c = record {
   goes = goes_too _ _ _ c.parsed-then-next-eq63.ensures c.instruction.ensures.goes;
 }
 
-pub returns : goal.returns
-returns c = grind (arith, step_is_markup)
-
 pub returns-then-next-eq33 : goal.returns-then-next-eq33
 returns-then-next-eq33 c = record {
   value = λ limit end es s declared h. parses_too limit end _ _ _ _ _ c.parsed.ensures (c.comment_or_section.ensures.value (context_of limit es c.args.context) end s h);
   goes = goes_too _ _ _ c.parsed.ensures c.comment_or_section.ensures.goes;
 }
-
-pub element-requires : goal.element-requires
-element-requires c = record { there = omega (arith, c.requires.markup.there); here = c.requires.markup.here; fine = c.requires.markup.fine }
-
-pub comment_or_section-requires : goal.comment_or_section-requires
-comment_or_section-requires c = grind arith

@@ -7,7 +7,7 @@ use Rattle.rox_rows.specs.Rows.{node_rows}
 use Rattle.rox_rows.specs.StoredNodes.{data_of}
 use Rattle.rox_rows.specs.declared.row.NodeData.{NodeData}
 use Rattle.rox_builder.specs.BuilderState.{OpenRow, open_lines, opened_in, with_rows}
-use Rattle.rox_names.specs.OpenElements.{name_length, open_name}
+use Rattle.rox_names.specs.OpenElements.{name_length}
 use Rattle.rox_builder.specs.OpenRows.{top}
 use Rattle.rox_builder.proofs.Showing.{innermost_start, rows_count}
 use Rattle.rox_names.proofs.SpelledNames.{kept_bounds}
@@ -24,7 +24,6 @@ returns c = λ end start tag before up done outer shows split.
     let view = top_view b.tables start tag before up outer o lines in
     let placed = top_placed b.tables start tag before up outer o lines in
     let row : o.row ≡ top stack = ap (λ (l : OpenRow). l.row) view in
-    let named : open_name o ≡ tag.name = ap (λ (l : OpenRow). l.name) view in
     let front = with_rows b.pending shows.front shows.last in
     let many = rows_count b.tables end stack front (node_rows b.nodes) shows.rows in
     let begins : c.if-row-len.start ≡ start + 1 = elim c.if-row-len.branch [
@@ -38,5 +37,5 @@ returns c = λ end start tag before up done outer shows split.
     let long : length c.name_bytes.result.now ≡ name_length o =
     ap length c.name_bytes.ensures ∙ length-take-le (name_length o) o.source.now (kept_bounds o.name_count o.source.now c.requires.within).1 in
     let ends : c.saturating_add-end.result ≡ tag.name_end = omega (arith, c.saturating_add-end.ensures, begins, long, placed.0, placed.1) in
-    c.name_span.ensures ∙ ap (λ (m : Name). name_span m c.if-row-len.start c.saturating_add-end.result) (c.open_name.ensures ∙ named)
+    c.name_span.ensures ∙ ap (λ (m : Name). name_span m c.if-row-len.start c.saturating_add-end.result) (c.open_name.ensures ∙ (ap (λ (l : OpenRow). l.name) view))
     ∙ ap (λ (k : ℕ). name_span tag.name k c.saturating_add-end.result) begins ∙ ap (name_span tag.name (start + 1)) ends

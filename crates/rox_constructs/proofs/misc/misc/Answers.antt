@@ -16,17 +16,15 @@ returns-in_err-comment c = record {
   value = λ limit end s sees.
       let src = c.args.cursor.now.text.now in
       let n = length src - c.loop-turn._turn in
-      let one : n ≡ suc (n - 1) = omega arith in
       let s0 = ap (λ t. t.now) c.loop-turn.invariant.source in
       let sp = ap (λ t. t.now) c.spaces.ensures.source ∙ s0 in
       let g = c.loop-turn.invariant.reads limit end s sees in
       let next : c.spaces.new.self.pos ≡ spaces_end src c.loop-turn.cursor.pos = rw s0 at c.spaces.ensures.place in
       let seen = sees_spaced limit end src g.s c.loop-turn.cursor c.spaces.new.self c.loop-turn.builder g.sees next in
-      let p : c.spaces.new.self.pos ≡ spaces_end src g.s.at = next ∙ ap (spaces_end src) g.sees.here in
-      let is : at word.CommentStart src (spaces_end src g.s.at) ≡ true = rw (sp, p) at (sym c.starts.ensures ∙ c.if-starts.true) in
+      let is : at word.CommentStart src (spaces_end src g.s.at) ≡ true = rw (sp, (next ∙ ap (spaces_end src) g.sees.here)) at (sym c.starts.ensures ∙ c.if-starts.true) in
       let q = err_from_is_err_and c.from_residual.result c.from_residual.ensures.1 in
       let fails : IsFailure c.in_err-comment.field-0.0 (lifted (comment_step limit src (spaced src g.s))) = rw sp at (c.in_err-comment.ensures.value limit end (spaced src g.s) seen) in
-      rw (q.1, q.2) (comment_fails limit end src _ n (n - 1) c.loop-turn.cursor c.loop-turn.builder c.in_err-comment.field-0.0 g one is fails);
+      rw (q.1, q.2) (comment_fails limit end src _ n (n - 1) c.loop-turn.cursor c.loop-turn.builder c.in_err-comment.field-0.0 g (omega arith) is fails);
   goes = let q = err_from_is_err_and c.from_residual.result c.from_residual.ensures.1 in rw q.1 tt;
 }
 
@@ -35,7 +33,6 @@ returns-in_err-instruction c = record {
   value = λ limit end s sees.
       let src = c.args.cursor.now.text.now in
       let n = length src - c.loop-turn._turn in
-      let one : n ≡ suc (n - 1) = omega arith in
       let s0 = ap (λ t. t.now) c.loop-turn.invariant.source in
       let sp = ap (λ t. t.now) c.spaces.ensures.source ∙ s0 in
       let g = c.loop-turn.invariant.reads limit end s sees in
@@ -46,7 +43,7 @@ returns-in_err-instruction c = record {
       let is : at word.PIStart src (spaces_end src g.s.at) ≡ true = rw (sp, p) at (sym c.starts-else-starts.ensures ∙ c.if-starts-2.true) in
       let q = err_from_is_err_and c.from_residual-in_err-instruction.result c.from_residual-in_err-instruction.ensures.1 in
       let fails : IsFailure c.in_err-instruction.field-0.0 (lifted (instruction_step limit src (spaced src g.s))) = rw sp at (c.in_err-instruction.ensures.value limit end (spaced src g.s) seen) in
-      rw (q.1, q.2) (instruction_fails limit end src _ n (n - 1) c.loop-turn.cursor c.loop-turn.builder c.in_err-instruction.field-0.0 g one other is fails);
+      rw (q.1, q.2) (instruction_fails limit end src _ n (n - 1) c.loop-turn.cursor c.loop-turn.builder c.in_err-instruction.field-0.0 g (omega arith) other is fails);
   goes = let q = err_from_is_err_and c.from_residual-in_err-instruction.result c.from_residual-in_err-instruction.ensures.1 in rw q.1 tt;
 }
 
@@ -55,7 +52,6 @@ returns-else-starts-2 c = record {
   value = λ limit end s sees.
       let src = c.args.cursor.now.text.now in
       let n = length src - c.loop-turn._turn in
-      let one : n ≡ suc (n - 1) = omega arith in
       let s0 = ap (λ t. t.now) c.loop-turn.invariant.source in
       let sp = ap (λ t. t.now) c.spaces.ensures.source ∙ s0 in
       let g = c.loop-turn.invariant.reads limit end s sees in
@@ -63,7 +59,7 @@ returns-else-starts-2 c = record {
       let p : c.spaces.new.self.pos ≡ spaces_end src g.s.at = next ∙ ap (spaces_end src) g.sees.here in
       let other : at word.CommentStart src (spaces_end src g.s.at) ≡ false = rw (sp, p) at (sym c.starts.ensures ∙ c.if-starts.false) in
       let also : at word.PIStart src (spaces_end src g.s.at) ≡ false = rw (sp, p) at (sym c.starts-else-starts.ensures ∙ c.if-starts-2.false) in
-      misc_done limit end src _ n (n - 1) c.loop-turn.cursor c.spaces.new.self c.loop-turn.builder g one other also next;
+      misc_done limit end src _ n (n - 1) c.loop-turn.cursor c.spaces.new.self c.loop-turn.builder g (omega arith) other also next;
   goes = search rules;
 }
 
@@ -109,10 +105,8 @@ loop-turn-preserved c = elim c.if-starts.branch [
 pub returns : goal.returns
 returns c = record {
   value = λ limit end s sees.
-      let src = c.args.cursor.now.text.now in
       let t = c.loop-turn-test.false in
-      let none : length src - c.loop-turn._turn ≡ 0 = omega arith in
-      misc_spent limit end src _ _ c.loop-turn.cursor c.loop-turn.builder (c.loop-turn.invariant.reads limit end s sees) none;
+      misc_spent limit end c.args.cursor.now.text.now _ _ c.loop-turn.cursor c.loop-turn.builder (c.loop-turn.invariant.reads limit end s sees) (omega arith);
   goes = search rules;
 }
 

@@ -72,7 +72,6 @@ loop-builder-preserved c =
       | then-bytes-here-ne60+else-not-put_character_data w ↦ ap (λ (x : Cursor). x.text) w.here-is ∙ w.put_character_data.ensures.goes.source ∙ c.loop-builder.invariant.source
       | else-bytes-here-ne60 w ↦ ap (λ (x : Cursor). x.text) w.here-is ∙ c.loop-builder.invariant.source
     ] in
-    let s1 = ap (λ t. t.now) source in
     let most = c.len.result + c.args.rows in
     let some : vec_len c.loop-builder.builder.nodes.rows + 1 < most = omega (arith, c.loop-builder-test.true, c.len-in-loop-builder.ensures.rows) in
     let ready : IsReadyTo most c.if-bytes-here-ne60.builder = elim c.if-bytes-here-ne60.branch [
@@ -88,8 +87,7 @@ loop-builder-preserved c =
           let read = c.loop-builder.invariant.reads context end s around main h in
           let g = read.1 in
           let inner : is_root g.behind.stack ≡ false = sym (c.is_at_root.ensures end g.behind.stack g.behind.done g.sees.shows) ∙ c.if-is_at_root.false in
-          let len : length c.as_bytes-bytes.result.now ≡ length src = ap length (c.as_bytes-bytes.ensures.value ∙ s0) in
-          let within : g.behind.at < length src = omega (arith, c.if-here-bytes.false, len, g.sees.here) in
+          let within : g.behind.at < length src = omega (arith, c.if-here-bytes.false, (ap length (c.as_bytes-bytes.ensures.value ∙ s0)), g.sees.here) in
           let between : (n : ℕ) × Between context end n c.if-bytes-here-ne60.here c.if-bytes-here-ne60.builder src s = elim c.if-bytes-here-ne60.branch [
             | then-bytes-here-ne60+else-not-put_character_data w ↦ (
                 let yes = w.if-not-put_character_data.false in
@@ -103,7 +101,7 @@ loop-builder-preserved c =
           ] in (
             between.0 + 1,
             reads_markup context end between.0 src s c.if-bytes-here-ne60.here c.quick_markup.new.cursor c.if-bytes-here-ne60.builder c.quick_markup.new.builder between.1
-                (λ t sees. rw s1 at (c.quick_markup.ensures.reads.value c.if-not-quick_markup.false context end t around sees)),
+                (λ t sees. rw (ap (λ t. t.now) source) at (c.quick_markup.ensures.reads.value c.if-not-quick_markup.false context end t around sees)),
           );
     }
 
@@ -128,8 +126,7 @@ returns c = record {
             ))
         | then-loop-builder-test+else-is_at_root+else-here-bytes+then-not-quick_markup w ↦ (
             let inner : is_root g.behind.stack ≡ false = sym (w.is_at_root.ensures end g.behind.stack g.behind.done g.sees.shows) ∙ w.if-is_at_root.false in
-            let len : length w.as_bytes-bytes.result.now ≡ length src = ap length (w.as_bytes-bytes.ensures.value ∙ s0) in
-            let within : g.behind.at < length src = omega (arith, w.if-here-bytes.false, len, g.sees.here) in
+            let within : g.behind.at < length src = omega (arith, w.if-here-bytes.false, (ap length (w.as_bytes-bytes.ensures.value ∙ s0)), g.sees.here) in
             let between : (n : ℕ) × Between context end n w.if-bytes-here-ne60.here w.if-bytes-here-ne60.builder src s = elim w.if-bytes-here-ne60.branch [
               | then-bytes-here-ne60+else-not-put_character_data v ↦ (
                   let yes = v.if-not-put_character_data.false in

@@ -58,8 +58,7 @@ returns c = record {
         let i = c.args.cursor.now.pos in
         let b = slice_index c.as_bytes-bytes.result.now (i + 1) in
         let is = step_is_markup context c.args.cursor.now.text.now _ s i b c.as_bytes-bytes.ensures.value h.here (ap (λ (xs : List ℕ). slice_index xs c.args.cursor.now.pos) c.as_bytes-bytes.ensures.value ∙ c.requires.here) c.if-cursor-bytes.false refl (λ e. absurd (omega (arith, c.if-next-le63.false, e))) in
-        let o = c.element_of_name.ensures.other c.if-element_of_name.false in
-        let sees : IsInState context.limit end s c.args.cursor.now c.element_of_name.new.builder = rw (o.1) h in
+        let sees : IsInState context.limit end s c.args.cursor.now c.element_of_name.new.builder = rw ((c.element_of_name.ensures.other c.if-element_of_name.false).1) h in
         rw (is, ne_eqb b 63 (λ e. absurd (omega (arith, c.if-next-le63.false, e))), ne_eqb b 47 (λ e. absurd (omega (arith, c.if-next-le63.false, e))))
         (elim c.if-bytes-near-lt58.branch [
           | then-bytes-near-lt58 w ↦ rw (w.builder-is) (w.element_without_prefix-end.ensures.value (omega (arith, c.if-end-gt-MOST_BYTES.false, w.end-is)) context end s c.args.cursor.now _ refl w.end-is sees)

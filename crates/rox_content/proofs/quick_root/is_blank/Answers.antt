@@ -5,6 +5,4 @@ use Rattle.rox_content.proofs.quick_root.is_blank.Goals as goal
 pub returns : goal.returns
 returns c = λ one.
     let t = c.args.elements.now in
-    let k = t.listed.ok.0 in
-    let m = t.scopes.ok.0 in
-    blank t (omega (arith, ap length c.as_slice.ensures.value)) (omega (arith, k)) (omega (arith, m)) (c.is_of_none.ensures one)
+    blank t (omega (arith, ap length c.as_slice.ensures.value)) (omega (arith, t.listed.ok.0)) (omega (arith, t.scopes.ok.0)) (c.is_of_none.ensures one)

@@ -38,9 +38,7 @@ returns-in_default-look c =
 pub put_leaf-requires : goal.put_leaf-requires
 put_leaf-requires c =
     let b = c.args.builder.now in
-    let src = c.args.cursor.now.text.now in
-    let pos = c.args.cursor.now.pos in
-    let x : IsReadFirst b.tables c.first_tag.new.elements src pos c.in-Some.read = rw c.in-Some.is at c.in-Ok.ensures in
+    let x : IsReadFirst b.tables c.first_tag.new.elements c.args.cursor.now.text.now c.args.cursor.now.pos c.in-Some.read = rw c.in-Some.is at c.in-Ok.ensures in
     let ready = c.rows_left.ensures 1 (omega arith) (omega arith) in
     record {
       row = record {

@@ -9,6 +9,5 @@ returns c = λ k few below.
     let ys = c.args.other.now in
     let a = length-take 16 xs in
     let b = length-take 16 ys in
-    let one : length (take 16 xs) ≡ 16 = omega (arith, c.requires.one) in
     let other : length (take 16 ys) ≡ 16 = omega (arith, c.requires.other) in
-    sym (get_or-take 16 xs k 0 few) ∙ agree_before (take 16 xs) (take 16 ys) _ k one other refl few below ∙ get_or-take 16 ys k 0 few
+    sym (get_or-take 16 xs k 0 few) ∙ agree_before (take 16 xs) (take 16 ys) _ k (omega (arith, c.requires.one)) other refl few below ∙ get_or-take 16 ys k 0 few

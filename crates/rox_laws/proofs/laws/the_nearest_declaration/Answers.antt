@@ -3,7 +3,7 @@ use Rattle.std.specs.Option.{option_map}
 use Rattle.rox_theory.proofs.ParseParts.{tree_parts}
 use Rattle.rox_laws.specs.NearestDeclaration.{upwards, NoneDeclares, IsNearest, listed_uri}
 use Rattle.roxmltree.specs.NodeRef.{id_of, tree_of}
-use Rattle.rox_laws.proofs.Nearest.{found_is_nearest, none_is_declared, xml_is_never_listed, others_list_nothing}
+use Rattle.rox_laws.proofs.Nearest.{found_is_nearest, none_is_declared, xml_is_never_listed}
 use Rattle.rox_laws.proofs.laws.the_nearest_declaration.Goals as goal
 
 pub returns-clause-found : goal.returns-clause-found
@@ -26,6 +26,3 @@ returns-clause-never_xml c is_xml =
     let id = id_of c.args.node in
     let parsed = tree_parts c.whole.ensures.parsed.1 in
     c.lookup_namespace_uri.ensures ∙ subst (λ (prefix : Option (List ℕ)). listed_uri tree id prefix ≡ None) (sym is_xml) (xml_is_never_listed _ parsed.written tree parsed.shown id)
-
-pub returns-clause-others : goal.returns-clause-others
-returns-clause-others c other = c.lookup_namespace_uri.ensures ∙ others_list_nothing (tree_of c.args.node) (id_of c.args.node) (option_map (λ s. s.now) c.args.prefix) other

@@ -1,6 +1,4 @@
-use Rattle.std.proofs.Common.{length, map, ap}
-use Rattle.rox_rows.specs.Rows.{attribute}
-use Rattle.rox_scopes.specs.NamespaceViews.{namespace_view}
+use Rattle.std.proofs.Common.{length, arith}
 use Rattle.rox_reading.proofs.Lists.{all_slice}
 use Rattle.rox_lists.proofs.AttributeRows.{stretch_rows, all_reach, all_placed}
 use Rattle.rox_lists.proofs.search.attributes_at.Goals as goal
@@ -14,6 +12,4 @@ invariant_of-result c =
     })
 
 pub returns : goal.returns
-returns c =
-    let t = c.args.tables.now in
-    rw c.deref.ensures.value (ap (map (attribute (map namespace_view t.namespaces.items))) (stretch_rows t.attributes c.args.from c.args.until))
+returns c = grind (arith, stretch_rows)

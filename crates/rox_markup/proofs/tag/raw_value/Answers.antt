@@ -1,17 +1,6 @@
-use Rattle.std.proofs.Common.{sym, ◌∙◌, rules}
-use Rattle.rox_bytes.proofs.NearLemmas.{short_value, value_cut, near_plain}
+use Rattle.std.proofs.Common.{arith}
+use Rattle.rox_bytes.proofs.NearLemmas.{short_value, near_plain}
 use Rattle.rox_markup.proofs.tag.raw_value.Goals as goal
 
 pub returns-then-is_at : goal.returns-then-is_at
-returns-then-is_at c =
-    let s = c.args.cursor.now in
-    let near = c.skip_set-near.ensures in
-    record {
-      read = record {
-        value = rw c.range.ensures.value (short_value s.text.now s.pos c.skip_set-near.result c.args.quote.byte s.utf8 s.cut c.args.quote.is near.onward (value_cut s.text.now s.pos _ s.utf8 s.cut near.onward near.within near.passes) near.passes (sym c.is_at.ensures ∙ c.if-is_at.true));
-        source = search rules;
-        onward = search rules;
-      };
-      text = search rules;
-      verbatim = search (rules, near_plain, value_cut);
-    }
+returns-then-is_at c = grind (arith, short_value, near_plain)

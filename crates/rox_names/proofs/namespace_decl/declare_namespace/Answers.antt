@@ -1,7 +1,6 @@
 use Rattle.std.proofs.Common.{rules, ◌≡◌, ◌<◌, ◌≤◌, ◌∷◌, ◌++◌, [], drop, true, false, refl, sym, ap, ◌∙◌, subst, map, length, length-append, arith, Err}
-use Rattle.std.proofs.lemmas.List.{drop-append-le}
+use Rattle.std.proofs.lemmas.List.{drop-append-le, length-map}
 use Rattle.std.proofs.lemmas.Result.{err_from_is_err_and}
-use Rattle.std.proofs.lemmas.List.{length-map}
 use Rattle.rox_grammar.specs.declared.fault.Fault.TheVariants as fault
 use Rattle.rox_grammar.specs.declared.fault.Fault.{Fault}
 use Rattle.rox_grammar.specs.declared.fault.Span.{Span}
@@ -22,9 +21,6 @@ use Rattle.rox_reading.proofs.Stretches.{slice-rest}
 use Rattle.rox_reading.proofs.Lists.{all_slice}
 use Rattle.rox_names.proofs.Declaring.{uri_refused, declared_again, declared_many, declares_prefix_xml, declares_other, own_listed, own_declares, fails_by, many_pairs, kept_after, lists_after, places_after, remembers_after, once_after}
 use Rattle.rox_names.proofs.namespace_decl.declare_namespace.Goals as goal
-
-pub is_own-requires : goal.is_own-requires
-is_own-requires c = grind (arith, all_slice, slice-rest)
 
 pub add_prefix-requires : goal.add_prefix-requires
 add_prefix-requires c = grind (arith, all_slice, places_after)
@@ -78,11 +74,10 @@ returns-in_err-place c = record {
       let new : is_declared (namespace_decl_of a).prefix h.own ≡ false =
       ap (λ p. is_declared p h.own) (sym prefix_is) ∙ sym (own_declares (map namespace_view c.as_slice.result.now) _ (prefix_view c.declared_prefix-prefix.result) c.args.xml h.own c.is_own.result c.is_own.ensures d.xml_is mine) ∙ c.if-is_own.false in
       let is : is_xml (namespace_decl_of a).prefix ≡ false = ap is_xml (sym prefix_is) ∙ sym c.is_xml.ensures ∙ c.if-is_xml.false in
-      let one : pair (prefix_view c.declared_prefix-prefix.result) a.value ≡ namespace_decl_of a = ap (λ p. pair p a.value) prefix_is in
       rw (p.1, p.2) (fails_by c.in_err-place.field-0.0 c.place.result (declared known a h) c.in_err-place.was (λ f was.
       let k = c.place.ensures.fault f was in
       let many : most_pairs < length (with_new (map namespace_view c.args.namespaces.now.items.items) (namespace_decl_of a ∷ [])) =
-      subst (λ (x : NamespaceDecl). most_pairs < length (with_new (map namespace_view c.args.namespaces.now.items.items) (x ∷ []))) one k.1 in
+      subst (λ (x : NamespaceDecl). most_pairs < length (with_new (map namespace_view c.args.namespaces.now.items.items) (x ∷ []))) (ap (λ p. pair p a.value) prefix_is) k.1 in
       declared_many known a h uri new (many_pairs known before (map namespace_view c.args.namespaces.now.items.items) c.args.listed.now.items c.args.xml a h d is many) ∙ ap (λ (x : Fault). Err x) (sym k.0)));
 }
 

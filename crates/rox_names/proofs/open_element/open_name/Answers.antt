@@ -1,4 +1,4 @@
-use Rattle.std.proofs.Common.{◌-◌, arith}
+use Rattle.std.proofs.Common.{arith}
 use Rattle.std.proofs.lemmas.List.{take_rest}
 use Rattle.rox_names.proofs.SpelledNames.{spelled_parts, spelled_whole}
 use Rattle.rox_names.proofs.open_element.open_name.Goals as goal

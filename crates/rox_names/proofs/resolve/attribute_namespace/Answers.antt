@@ -9,8 +9,7 @@ returns-in-Some c = record {
     within = c.in-Some.ensures.within;
     there = λ ds h.
         let filled = empty_is c.args.name.prefix.now c.is_empty.result c.is_empty.ensures ∙ c.if-is_empty.false in
-        let other = sym c.same_text.ensures ∙ c.if-same_text.false in
-        rw (filled, other) (c.in-Some.ensures.value ∙ h.uris _);
+        rw (filled, (sym c.same_text.ensures ∙ c.if-same_text.false)) (c.in-Some.ensures.value ∙ h.uris _);
     known = λ ds h. known_some ds (name_view c.args.name) _ (sym (h.uris _) ∙ sym c.in-Some.ensures.value);
   };
   unknown = search rules;

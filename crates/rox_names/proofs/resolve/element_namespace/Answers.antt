@@ -10,9 +10,8 @@ pub returns-in-Some : goal.returns-in-Some
 returns-in-Some c = record {
   within = search rules;
   ok = λ ds h.
-      let namespaces = map namespace_view c.args.namespaces.now in
       let filled : bytes_eq c.args.name.prefix.now [] ≡ false = empty_is c.args.name.prefix.now c.is_empty.result c.is_empty.ensures ∙ c.if-is_empty.false in
-      element_some namespaces ds (name_view c.args.name) c.in-Some.place filled (sym (h.uris _) ∙ sym c.in-Some.ensures.value);
+      element_some (map namespace_view c.args.namespaces.now) ds (name_view c.args.name) c.in-Some.place filled (sym (h.uris _) ∙ sym c.in-Some.ensures.value);
   err = search rules;
 }
 

@@ -18,9 +18,8 @@ returns c = record {
     ];
     refused = search;
     are_seen = λ done.
-        let row = row_of_unresolved c.args.own c.args.namespace in
         let grown = c.put.ensures.put done in
-        let seen = c.may_have-repeats.ensures.seen row refl in
+        let seen = c.may_have-repeats.ensures.seen (row_of_unresolved c.args.own c.args.namespace) refl in
         elim c.else-repeats.branch [
           | else-repeats-via-then-repeats+else-is_refused w ↦ rw w.seen-is (subst (AreSeen w.is_refused.new.seen) (sym grown) (same_seen c.may_have-repeats.new.self w.is_refused.new.seen _ w.is_refused.ensures.kept.codes w.is_refused.ensures.kept.from seen))
           | else-repeats-via-else-repeats w ↦ rw w.seen-is (subst (AreSeen c.may_have-repeats.new.self) (sym grown) seen)

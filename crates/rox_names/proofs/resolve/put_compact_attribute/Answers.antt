@@ -21,11 +21,10 @@ returns c = record {
     ];
     refused = λ no. c.put_compact.ensures.none no ∙ c.has_room.ensures.rows;
     are_seen = λ done.
-        let old = attribute_rows c.args.attributes.now in
         let row = row_of_compact c.args.one c.args.namespace in
         let item : AttributeData = row.0 in
         let grown = c.put_compact.ensures.put done ∙ ap (λ (xs : List AttributeRow). xs ++ (item, c.places-places.result) ∷ []) c.has_room.ensures.rows
-        ∙ ap (λ (p : AttributePlaces). old ++ (item, p) ∷ []) c.places-places.ensures in
+        ∙ ap (λ (p : AttributePlaces). (attribute_rows c.args.attributes.now) ++ (item, p) ∷ []) c.places-places.ensures in
         let seen = c.may_have-repeats.ensures.seen row refl in
         elim c.else-repeats.branch [
           | else-repeats-via-then-repeats+else-is_refused w ↦ rw w.seen-is (subst (AreSeen w.is_refused.new.seen) (sym grown) (same_seen c.may_have-repeats.new.self w.is_refused.new.seen _ w.is_refused.ensures.kept.codes w.is_refused.ensures.kept.from seen))

@@ -4,37 +4,18 @@ use Rattle.rox_rows.specs.Rows.{AttributeRow, attribute_rows, NamespaceWithin}
 use Rattle.rox_scopes.specs.NamespaceViews.{namespace_view}
 use Rattle.rox_names.specs.ResolvedNames.{row_of_unresolved}
 use Rattle.rox_seen.specs.SeenNames.{HasNameOf, SeesName}
-use Rattle.rox_seen.proofs.SeenCodes.{seen_first, seen_more}
-use Rattle.rox_rows.proofs.AttributeRows.{data_behind, old_within, all_behind, all_column}
+use Rattle.rox_seen.proofs.SeenCodes.{seen_more}
+use Rattle.rox_rows.proofs.AttributeRows.{data_behind, all_behind, all_column}
 use Rattle.rox_names.proofs.Resolving.{ends, refuses, moves, resolves, starts, resolves_first, read_again}
 use Rattle.rox_names.proofs.resolve.resolve.Goals as goal
-
-pub slice_bounds-tested_namespace-count : goal.slice_bounds-tested_namespace-count
-slice_bounds-tested_namespace-count c = grind (arith, old_within)
-
-pub slice_bounds-tested_namespace-start : goal.slice_bounds-tested_namespace-start
-slice_bounds-tested_namespace-start c = grind (arith, old_within)
-
-pub offset_bounds-deref-seen : goal.offset_bounds-deref-seen
-offset_bounds-deref-seen c = grind (arith, old_within)
-
-pub loop-turn-init : goal.loop-turn-init
-loop-turn-init c = record {
-  from = omega arith;
-  seen = seen_first c.new-seen.result (attribute_rows c.args.attributes.now) (omega arith);
-  moving = starts (length c.args.namespaces.now) c.args.taken.now.items (attribute_rows c.args.attributes.now);
-  resolving = λ ds h. resolves_first (map namespace_view c.args.namespaces.now) ds c.args.taken.now.items (attribute_rows c.args.attributes.now);
-}
 
 pub returns-in_err-namespace : goal.returns-in_err-namespace
 returns-in_err-namespace c = λ ds h.
     let l = c.loop-turn in
-    let from = l.invariant.from in
-    let behind = data_behind l.attributes c.deref.result.now (attribute_rows c.args.attributes.now) l.seen.from c.deref.ensures.value from in
-    let here : l.turn < length l.taken.items = omega arith in
+    let behind = data_behind l.attributes c.deref.result.now (attribute_rows c.args.attributes.now) l.seen.from c.deref.ensures.value l.invariant.from in
     let p = err_from_is_err_and c.from_residual.result c.from_residual.ensures.1 in
     rw (p.1, p.2) (refuses (length c.args.namespaces.now) (map namespace_view c.args.namespaces.now) ds c.args.taken.now.items (attribute_rows c.args.attributes.now) l.turn l.taken.items (attribute_rows l.attributes)
-    c.index.result.now c.in_err-namespace.field-0.0 l.invariant.moving (l.invariant.resolving ds h) here c.index.ensures
+    c.index.result.now c.in_err-namespace.field-0.0 l.invariant.moving (l.invariant.resolving ds h) (omega arith) c.index.ensures
     (λ before rest shown. c.in_err-namespace.ensures.tested ds (drop (length (attribute_rows c.args.attributes.now)) (attribute_rows l.attributes)) before rest h behind shown))
 
 pub loop-turn-preserved : goal.loop-turn-preserved
@@ -86,6 +67,5 @@ returns-then-is_empty c = λ ds _.
     let n = length c.args.namespaces.now in
     let old = attribute_rows c.args.attributes.now in
     let none = eqb-true (vec_len taken) 0 (sym c.is_empty.ensures ∙ c.if-is_empty.true) in
-    let ok = taken.ok.0 in
     ends n (map namespace_view c.args.namespaces.now) ds taken.items old 0 taken.items old
-    (starts n taken.items old) (resolves_first (map namespace_view c.args.namespaces.now) ds taken.items old) (omega (arith, none, ok))
+    (starts n taken.items old) (resolves_first (map namespace_view c.args.namespaces.now) ds taken.items old) (omega (arith, none, taken.ok.0))

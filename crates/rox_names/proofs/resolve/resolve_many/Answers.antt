@@ -18,10 +18,9 @@ pub returns-in_err-namespace : goal.returns-in_err-namespace
 returns-in_err-namespace c = λ ds h.
     let l = c.loop-turn in
     let old = attribute_rows c.args.attributes.now in
-    let here : l.turn < length l.taken.items = omega arith in
     let p = err_from_is_err_and c.from_residual.result c.from_residual.ensures.1 in
     rw (p.1, p.2) (refuses_or (length c.args.namespaces.now) (map namespace_view c.args.namespaces.now) ds c.args.taken.now.items old l.turn l.taken.items (attribute_rows l.attributes)
-    c.index.result.now c.in_err-namespace.field-0.0 l.invariant.moving (l.invariant.resolving ds h) here c.index.ensures
+    c.index.result.now c.in_err-namespace.field-0.0 l.invariant.moving (l.invariant.resolving ds h) (omega arith) c.index.ensures
     (λ before rest shown. c.in_err-namespace.ensures.tested ds (drop (length old) (attribute_rows l.attributes)) before rest h l.invariant.sees shown))
 
 pub loop-turn-preserved : goal.loop-turn-preserved

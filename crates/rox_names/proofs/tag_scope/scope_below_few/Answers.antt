@@ -1,5 +1,4 @@
 use Rattle.std.proofs.Common.{arith, ◌≡◌, length, map, refl, ap, ◌∙◌, true}
-use Rattle.std.proofs.lemmas.Grind.{common_steps}
 use Rattle.rox_names.specs.declared.tables.ElementTables.{ElementTables}
 use Rattle.rox_scopes.specs.declared.stored_scope.Stretch.{Stretch}
 use Rattle.rox_scopes.specs.NamespaceViews.{namespace_view}
@@ -9,9 +8,6 @@ use Rattle.rox_scopes.proofs.Ropes.{scopes_more}
 use Rattle.rox_scopes.proofs.Sharing.{few_listed, scopes_behind, within_behind}
 use Rattle.rox_names.proofs.Below.{below_few, few_pushed, kept_then, scope_behind, stood_in, has_scope}
 use Rattle.rox_names.proofs.tag_scope.scope_below_few.Goals as goal
-
-pub inherit-requires : goal.inherit-requires
-inherit-requires c = grind (arith, common_steps)
 
 pub returns-then-end-own-le-FEW : goal.returns-then-end-own-le-FEW
 returns-then-end-own-le-FEW c =

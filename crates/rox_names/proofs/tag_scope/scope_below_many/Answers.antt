@@ -1,8 +1,8 @@
-use Rattle.std.proofs.Common.{◌≡◌, ◌≤◌, length, map, drop, refl, subst, arith}
+use Rattle.std.proofs.Common.{length, map, drop, refl, subst, arith}
 use Rattle.std.proofs.lemmas.Bool.{not-true}
 use Rattle.rox_names.specs.declared.tables.ElementTables.{ElementTables}
 use Rattle.rox_reading.specs.AtIndex.{scope_at}
-use Rattle.rox_scopes.specs.ScopeRows.{lists_of, AreScopes}
+use Rattle.rox_scopes.specs.ScopeRows.{lists_of}
 use Rattle.rox_scopes.specs.NamespaceViews.{namespace_view}
 use Rattle.rox_scopes.specs.Scopes.{entries, others, PrefixesOnce}
 use Rattle.rox_scopes.specs.Bindings.{IsBound, bound_place}
@@ -16,12 +16,11 @@ pub returns-then-not-own : goal.returns-then-not-own
 returns-then-not-own c =
     let o = c.args.elements.now in
     let k = o.listed.ok.0 in
-    let none : length o.listed.items ≤ c.args.own.from = omega arith in
     let t : ElementTables = record { attributes = o.attributes; namespaces = o.namespaces; listed = o.listed; scopes = o.scopes; present = c.make_innermost.new.self } in
     let stood = stood_in o.namespaces.items.items c.as_slice.result.now o.listed.items c.deref.result.now o.scopes.items c.deref-2.result.now o.present c.make_innermost.new.self c.args.above c.as_slice.ensures.value c.deref.ensures.value
     c.deref-2.ensures.value c.in_ok-make_innermost.ensures.value c.requires.tag.kept in
     has_scope o t c.args.above c.args.own.from c.args.above c.args.own.xml c.requires.tag refl refl stood.0 (present_by t c.args.above stood.1)
-    (nothing_listed o c.args.above c.args.own.from c.args.own.xml c.requires.tag none (not-true c.args.own.xml c.if-not-own.true))
+    (nothing_listed o c.args.above c.args.own.from c.args.own.xml c.requires.tag (omega arith) (not-true c.args.own.xml c.if-not-own.true))
 
 pub hide_own-requires : goal.hide_own-requires
 hide_own-requires c =
@@ -41,9 +40,6 @@ hide_own-requires c =
       bound = subst (IsBound namespaces (bound_place x)) (scope_places namespaces o.listed.items o.scopes.items c.args.above) stood.1;
     })
 
-pub add_back-requires : goal.add_back-requires
-add_back-requires c = record { from = c.requires.tag.own_within; scopes = subst (λ l. AreScopes (length l) c.hide_own.new.scopes.items) c.deref-3.ensures.value c.in_ok-rest.ensures.scopes_are }
-
 pub returns : goal.returns
 returns c =
     let o = c.args.elements.now in
@@ -62,8 +58,7 @@ returns c =
     let y = joined_listed namespaces listed after o.scopes.items mid c.add_back.new.scopes.items rows c.in_ok-rest.rest c.in_ok-first.first i (others mine c.args.own.xml above) mine x (c.in_ok-first.ensures.value namespaces) c.in_ok-scope.ensures in
     let t : ElementTables = record { attributes = o.attributes; namespaces = o.namespaces; listed = c.add_back.new.listed; scopes = c.both.new.scopes; present = c.enter.new.self } in
     let k = o.listed.ok.0 in
-    let begins : c.len-from.result ≡ length listed = omega arith in
     let inside = entered_in o.namespaces.items.items c.as_slice-3.result.now after c.deref-4.result.now c.make_innermost.new.self c.enter.new.self c.len-from.result i c.args.own.xml c.as_slice-3.ensures.value
     c.deref-4.ensures.value c.in_ok-enter.ensures (lists_of namespaces after rows) above (kept_then namespaces listed after o.scopes.items rows i _ c.make_innermost.new.self h y stood.0) stood.1
-    (entered namespaces listed after o.scopes.items rows i c.args.own.from c.len-from.result (length after) c.args.own.xml above c.in_ok-first.ensures.own begins refl y) in
+    (entered namespaces listed after o.scopes.items rows i c.args.own.from c.len-from.result (length after) c.args.own.xml above c.in_ok-first.ensures.own (omega arith) refl y) in
     has_scope o t c.args.above c.args.own.from i c.args.own.xml c.requires.tag refl refl inside.0 (present_by t i inside.1) y

@@ -24,8 +24,7 @@ returns-then-close-text c =
 pub local_at-requires-2 : goal.local_at-requires-2
 local_at-requires-2 c =
     let within : c.uri_end-close.result < length c.args.text.now = omega (arith, c.uri_end-close.ensures.within, c.if-close-text.false) in
-    let close = c.uri_end-close.ensures.found within in
-    IsCharBoundary-after_ascii c.args.text.now c.uri_end-close.result c.utf8.text within (omega (arith, close))
+    IsCharBoundary-after_ascii c.args.text.now c.uri_end-close.result c.utf8.text within (omega (arith, (c.uri_end-close.ensures.found within)))
 
 pub returns-in_err-local-2 : goal.returns-in_err-local-2
 returns-in_err-local-2 c =

@@ -32,9 +32,8 @@ returns-then-is_at g c = record {
       let h : doctype_head_at src d.state.at ≡ Ok (tt, p) = rw sees.here at c.in_ok-doctype_head.ensures.value in
       let opens : slice_index src p ≡ 91 = rw same at (eqb-true _ _ (sym c.is_at.ensures ∙ c.if-is_at.true)) in
       let inside = stands_within src p 91 opens (lit< tt) in
-      let behind = with_state d (at_place (p + 1) d.state) in
       let seen = sees_at limit end d.state c.args.cursor.now c.advance.new.self c.args.builder.now (p + 1) sees c.advance.ensures.place in
-      let k = c.subset.ensures.value limit end behind seen declared in
+      let k = c.subset.ensures.value limit end (with_state d (at_place (p + 1) d.state)) seen declared in
       with_subset limit end src (Allows g.R.EntityResolver.allows c.args.resolver.now) d p c.subset.new.cursor c.subset.new.builder c.subset.new.entities c.subset.result h inside opens (rw (text, sees.here) at k);
   goes = first_of (search rules, grind (arith, common_steps));
 }
@@ -43,11 +42,9 @@ pub returns-then-is_at_end : goal.returns-then-is_at_end
 returns-then-is_at_end g c = record {
   value = λ limit end d sees declared.
       let src = c.args.cursor.now.text.now in
-      let same = ap (λ t. t.now) c.doctype_head.ensures.source in
       let p = c.doctype_head.new.cursor.pos in
-      let h : doctype_head_at src d.state.at ≡ Ok (tt, p) = rw sees.here at c.in_ok-doctype_head.ensures.value in
-      let out : length src ≤ p = rw same at (leb-true _ _ (sym c.is_at_end.ensures ∙ c.if-is_at_end.true)) in
-      ([], none_given (Allows g.R.EntityResolver.allows c.args.resolver.now), doctype_cut_stops limit src d tt p h out);
+      let out : length src ≤ p = rw (ap (λ t. t.now) c.doctype_head.ensures.source) at (leb-true _ _ (sym c.is_at_end.ensures ∙ c.if-is_at_end.true)) in
+      ([], none_given (Allows g.R.EntityResolver.allows c.args.resolver.now), doctype_cut_stops limit src d tt p (rw sees.here at c.in_ok-doctype_head.ensures.value) out);
   goes = first_of (search rules, grind (arith, common_steps));
 }
 
@@ -71,16 +68,14 @@ returns g c = record {
   value = λ limit end d sees declared.
       let src = c.args.cursor.now.text.now in
       let same : c.doctype_head.new.cursor.text.now ≡ src = ap (λ t. t.now) c.doctype_head.ensures.source in
-      let bytes : c.as_bytes.result.now ≡ src = c.as_bytes.ensures.value ∙ same in
       let p = c.doctype_head.new.cursor.pos in
-      let h : doctype_head_at src d.state.at ≡ Ok (tt, p) = rw sees.here at c.in_ok-doctype_head.ensures.value in
       let inside : p < length src = rw same at (leb-false _ _ (sym c.is_at_end.ensures ∙ c.if-is_at_end.false)) in
-      let closes : slice_index src p ≡ 62 = rw bytes at c.if-here-ne62.false in (
+      let closes : slice_index src p ≡ 62 = rw (c.as_bytes.ensures.value ∙ same) at c.if-here-ne62.false in (
         [],
         none_given (Allows g.R.EntityResolver.allows c.args.resolver.now),
         record {
           dtd = with_state d (at_place (p + 1) d.state);
-          answered = doctype_plain limit src d tt p h inside closes;
+          answered = doctype_plain limit src d tt p (rw sees.here at c.in_ok-doctype_head.ensures.value) inside closes;
           sees = sees_at limit end d.state c.args.cursor.now c.advance-2.new.self c.args.builder.now (p + 1) sees c.advance-2.ensures.place;
           declared = declared;
         },

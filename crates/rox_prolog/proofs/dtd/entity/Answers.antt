@@ -71,9 +71,8 @@ returns-in_err-byte g c = record {
       let j = c.entity_def.new.cursor.pos in
       let k : definition_at c.in_ok-head.head.parameter src c.entity_head.new.cursor.pos ≡ Ok (definition, j) = rw same at c.in_ok-definition.ensures.value in
       let same2 : c.entity_def.new.cursor.text.now ≡ src = ap (λ t. t.now) c.entity_def.ensures.source ∙ same in
-      let same3 : c.spaces.new.self.text.now ≡ src = ap (λ t. t.now) c.spaces.ensures.source ∙ same2 in
       let place : c.spaces.new.self.pos ≡ spaces_end src j = rw same2 at c.spaces.ensures.place in
-      let b : byte_at 62 src (spaces_end src j) ≡ Err c.in_err-byte.field-0.0 = rw (same3, place) at c.in_err-byte.ensures.value in
+      let b : byte_at 62 src (spaces_end src j) ≡ Err c.in_err-byte.field-0.0 = rw ((ap (λ t. t.now) c.spaces.ensures.source ∙ same2), place) at c.in_err-byte.ensures.value in
       let x = c.in_ok-text.ensures in
       (x.0, x.1, rw (q.1, q.2) (entity_unclosed src d head h definition j k x.0 (option_map replacement_view c.in_ok-text.text) x.2 c.in_err-byte.field-0.0 b));
   source = first_of (search rules, grind (arith, common_steps));
@@ -86,21 +85,18 @@ returns g c = record {
       let same = ap (λ t. t.now) c.entity_head.ensures.source in
       let head : EntityHead × ℕ = (head_view c.in_ok-head.head, c.entity_head.new.cursor.pos) in
       let h = subst (λ (n : ℕ). entity_head_at src n ≡ Ok head) at c.in_ok-head.ensures.value in
-      let definition = definition_view c.in_ok-definition.definition in
       let j = c.entity_def.new.cursor.pos in
-      let k : definition_at c.in_ok-head.head.parameter src c.entity_head.new.cursor.pos ≡ Ok (definition, j) = rw same at c.in_ok-definition.ensures.value in
       let same2 : c.entity_def.new.cursor.text.now ≡ src = ap (λ t. t.now) c.entity_def.ensures.source ∙ same in
-      let same3 : c.spaces.new.self.text.now ≡ src = ap (λ t. t.now) c.spaces.ensures.source ∙ same2 in
       let place : c.spaces.new.self.pos ≡ spaces_end src j = rw same2 at c.spaces.ensures.place in
       let e : ℕ = c.byte.new.self.pos in
-      let b : byte_at 62 src (spaces_end src j) ≡ Ok (tt, e) = rw (same3, place) at c.in_ok-byte.ensures.value in
+      let b : byte_at 62 src (spaces_end src j) ≡ Ok (tt, e) = rw ((ap (λ t. t.now) c.spaces.ensures.source ∙ same2), place) at c.in_ok-byte.ensures.value in
       let x = c.in_ok-text.ensures in
       let text = option_map replacement_view c.in_ok-text.text in (
         x.0,
         x.1,
         record {
           dtd = declared_there d head.0 text e;
-          answered = entity_read src d head h definition j k x.0 text x.2 tt e b;
+          answered = entity_read src d head h (definition_view c.in_ok-definition.definition) j (rw same at c.in_ok-definition.ensures.value) x.0 text x.2 tt e b;
           state = refl;
           declared = elim c.match-text.branch [
             | in-Some+in_ok-declare w ↦ rw (w.entities-is, w.in-Some.is) (w.in_ok-declare.ensures d.entities es)

@@ -29,11 +29,9 @@ returns-then-is_at_end g c = record {
   value = λ limit end d sees declared.
       let src = c.args.cursor.now.text.now in
       let n = length src - c.loop-turn._turn in
-      let one : n ≡ suc (n - 1) = omega arith in
       let k = c.loop-turn.invariant.reads limit end d sees declared in
-      let out : length c.loop-turn.cursor.text.now ≤ c.loop-turn.cursor.pos = leb-true _ _ (sym c.is_at_end.ensures ∙ c.if-is_at_end.true) in
-      let outside : length src ≤ c.loop-turn.cursor.pos = rw (ap (λ t. t.now) c.loop-turn.invariant.source) at out in
-      (k.asked, k.given, text_ends limit end c.args.start n src _ _ c.loop-turn.cursor c.loop-turn.builder c.loop-turn.entities k (n - 1) one outside);
+      let outside : length src ≤ c.loop-turn.cursor.pos = rw (ap (λ t. t.now) c.loop-turn.invariant.source) at (leb-true _ _ (sym c.is_at_end.ensures ∙ c.if-is_at_end.true)) in
+      (k.asked, k.given, text_ends limit end c.args.start n src _ _ c.loop-turn.cursor c.loop-turn.builder c.loop-turn.entities k (n - 1) (omega arith) outside);
   goes = first_of (search rules, grind (arith, common_steps));
 }
 
@@ -91,11 +89,9 @@ pub returns : goal.returns
 returns g c = record {
   value = λ limit end d sees declared.
       let src = c.args.cursor.now.text.now in
-      let n = length src - c.loop-turn._turn in
       let t = c.loop-turn-test.false in
-      let none : n ≡ 0 = omega arith in
       let k = c.loop-turn.invariant.reads limit end d sees declared in
-      (k.asked, k.given, turns_end limit end c.args.start n src _ _ c.loop-turn.cursor c.loop-turn.builder c.loop-turn.entities k none);
+      (k.asked, k.given, turns_end limit end c.args.start (length src - c.loop-turn._turn) src _ _ c.loop-turn.cursor c.loop-turn.builder c.loop-turn.entities k (omega arith));
   goes = first_of (search rules, grind (arith, common_steps));
 }
 

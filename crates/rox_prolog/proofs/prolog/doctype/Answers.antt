@@ -71,9 +71,8 @@ returns g c = record {
       let src = c.args.cursor.now.text.now in
       let h : at word.DoctypeStart src d.state.at ≡ true = rw sees.here at (sym c.starts.ensures ∙ c.if-not-starts.false) in
       let x = c.in_ok-document_type.ensures.value limit end d sees declared in
-      let same = ap (λ t. t.now) c.in_ok-document_type.ensures.goes.source in
       let k = c.in_ok-misc.ensures.value limit end x.2.dtd.state x.2.sees in
-      let m = lifted_ok _ k.0 (rw same at k.1) in (
+      let m = lifted_ok _ k.0 (rw (ap (λ t. t.now) c.in_ok-document_type.ensures.goes.source) at k.1) in (
         x.0,
         x.1,
         record {

@@ -1,10 +1,7 @@
-use Rattle.std.proofs.Common.{true, arith}
+use Rattle.std.proofs.Common.{true}
 use Rattle.rox_scan.specs.Lookahead.{none_changes, ends_comment}
 use Rattle.rox_scan.proofs.LongerLemmas.{looked_on}
 use Rattle.rox_scan.proofs.lookahead.comment_text_end.Goals as goal
-
-pub returns-then-starts : goal.returns-then-starts
-returns-then-starts c = grind arith
 
 pub returns : goal.returns
 returns c = λ some.

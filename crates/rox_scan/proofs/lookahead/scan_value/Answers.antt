@@ -1,4 +1,4 @@
-use Rattle.std.proofs.Common.{rules, ◌≡◌, ◌<◌, ℕ, List, false, get_or, refl, ap, ◌∙◌, arith}
+use Rattle.std.proofs.Common.{◌≡◌, ◌<◌, ℕ, List, false, get_or, refl, ap, ◌∙◌, arith}
 use Rattle.std.proofs.lemmas.Bool.{ne_eqb}
 use Rattle.rox_reading.specs.Values.{is_special}
 use Rattle.rox_scan.specs.Lookahead.{ends_value}
@@ -9,9 +9,6 @@ pub loop-end-init : goal.loop-end-init
 loop-end-init c =
     let n = c.skip_set-end.ensures in
     record { looked = any_value_near c.args.from.text.now c.args.quote.byte c.args.from.pos _ c.args.from.utf8 c.args.quote.is c.args.from.cut n.onward n.within n.passes n.stops }
-
-pub after_char-next-requires : goal.after_char-next-requires
-after_char-next-requires c = record { cut = c.loop-end.invariant.looked.cut; within = search rules }
 
 pub loop-end-preserved : goal.loop-end-preserved
 loop-end-preserved c =
@@ -25,12 +22,3 @@ loop-end-preserved c =
     let some : j < c.after_char-next.result = omega (arith, a.onward, c.if-next-end.false) in
     let changed : c.is_special.result ≡ is_special (get_or src j 0) = c.is_special.ensures ∙ ap is_special read in
     record { looked = c.value_stretch_end-end.ensures.looked c.args.from.pos c.args.from.cut (rw changed (value_char src c.args.quote.byte c.args.from.pos j _ c.loop-end.is_verbatim c.args.from.utf8 c.args.quote.is c.args.from.cut c.loop-end.invariant.looked some a.cut a.chars a.wide here)) }
-
-pub returns-after-loop-end : goal.returns-after-loop-end
-returns-after-loop-end c = record { looked = c.loop-end.invariant.looked; stops = search rules }
-
-pub returns-then-here-quote : goal.returns-then-here-quote
-returns-then-here-quote c = record { looked = c.loop-end.invariant.looked; stops = search rules }
-
-pub returns-then-next-end : goal.returns-then-next-end
-returns-then-next-end c = record { looked = c.loop-end.invariant.looked; stops = search rules }

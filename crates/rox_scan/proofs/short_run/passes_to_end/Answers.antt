@@ -13,13 +13,10 @@ last_pass : (p : ℕ → Bool) (src : List ℕ) (i at others : ℕ) → i + 16 �
 last_pass p src i at others long from within is none =
     let q = λ (b : ℕ). not (p b) in
     let n = at - i in
-    let few : n ≤ 16 = omega arith in
     let fits : (i + n) + (16 - n) ≤ length src = omega arith in
-    let rest : others / 2 ^ n ≡ mask_l (map q (chunk (i + n) (16 - n) src)) = ap (λ m. m / 2 ^ n) is ∙ mask_from q src i 16 n few in
+    let rest : others / 2 ^ n ≡ mask_l (map q (chunk (i + n) (16 - n) src)) = ap (λ m. m / 2 ^ n) is ∙ mask_from q src i 16 n (omega arith) in
     let counted = counted_none q src (i + n) (16 - n) fits (sym rest ∙ none) in
-    let end : (i + n) + (16 - n) ≡ length src = omega arith in
-    let begin : i + n ≡ at = omega arith in
-    subst (λ b. AllPass p src b (length src)) begin (subst (λ e. AllPass p src (i + n) e) end (block_passes p src (i + n) (16 - n) (16 - n) fits counted))
+    subst (λ b. AllPass p src b (length src)) (omega arith) (subst (λ e. AllPass p src (i + n) e) (omega arith) (block_passes p src (i + n) (16 - n) (16 - n) fits counted))
 
 pub returns : goal.returns
 returns g c = λ yes. last_pass g.C.ByteSet.test c.args.bytes.now (length c.args.bytes.now - 16) c.args.at _ (omega (arith, c.requires.room)) (omega (arith, c.requires.short)) c.requires.within c.others-others.ensures (is_none _ yes)

@@ -1,4 +1,4 @@
-use Rattle.std.proofs.Common.{rules, ◌≡◌, ◌+◌, ◌-◌, ◌<◌, ◌≤◌, length, get_or, sym, ap, ◌∙◌, arith, length-append}
+use Rattle.std.proofs.Common.{rules, ◌≡◌, ◌+◌, ◌<◌, ◌≤◌, length, get_or, sym, ap, ◌∙◌, arith, length-append}
 use Rattle.rox_scopes.specs.ScopeRows.{count_at}
 use Rattle.rox_scopes.specs.Scopes.{places_in}
 use Rattle.rox_scopes.proofs.Leaves.{get_front, get_behind}
@@ -94,7 +94,6 @@ returns-else-index-before t c = record {
       let m : count_at rows c.in-Concat.parts.first ≡ length (places_in ls rows c.in-Concat.parts.first) = f.2 in
       let n : c.count-before.result ≡ count_at rows c.in-Concat.parts.first = c.count-before.ensures in
       let le : length (places_in ls rows c.in-Concat.parts.first) ≤ c.args.index = omega arith in
-      let e : c.args.index - c.count-before.result ≡ c.args.index - length (places_in ls rows c.in-Concat.parts.first) = omega arith in
-      c.position_at-in-Concat.ensures.value ∙ ap (λ k. get_or (places_in ls rows c.in-Concat.parts.rest) k 0) e
+      c.position_at-in-Concat.ensures.value ∙ ap (λ k. get_or (places_in ls rows c.in-Concat.parts.rest) k 0) (omega arith)
       ∙ sym (ap (λ xs. get_or xs c.args.index 0) f.3 ∙ get_behind (places_in ls rows c.in-Concat.parts.first) (places_in ls rows c.in-Concat.parts.rest) c.args.index 0 le);
 }

@@ -1,4 +1,4 @@
-use Rattle.std.proofs.Common.{◌≡◌, ◌+◌, ◌-◌, ◌<◌, ◌≤◌, [], length, sym, ap, ◌∙◌, arith}
+use Rattle.std.proofs.Common.{◌≡◌, ◌+◌, ◌-◌, ◌<◌, [], length, sym, ap, ◌∙◌, arith}
 use Rattle.rox_scopes.specs.ScopeRows.{count_at}
 use Rattle.rox_scopes.specs.Scopes.{places_in}
 use Rattle.rox_scopes.proofs.Leaves.{cut, cut_first, cut_rest}
@@ -56,12 +56,11 @@ returns-then-index-before t c =
     let a : p.first < c.args.scope = r.row.0 in
     let b : p.rest < c.args.scope = r.row.1 in
     let w = c.requires.row.within in
-    let lf : p.first < length old = omega arith in
     let lr : p.rest < length old = omega arith in
     let n : c.count-before.result ≡ count_at old p.first = cc in
     if_ok c.both.result c.both.ensures (λ s z. rope_first old c.without.new.scopes.items c.both.new.scopes.items c.in_ok-first-in-Concat.first s p.rest _ _ c.in_ok-first-in-Concat.ensures z lr
     (λ l h.
-    let m : count_at old p.first ≡ length (places_in l old p.first) = count_places l old p.first h lf in
+    let m : count_at old p.first ≡ length (places_in l old p.first) = count_places l old p.first h (omega arith) in
     let less : i < length (places_in l old p.first) = omega arith in
     sym (ap (cut i) (row_is l old c.args.scope _ _ c.requires.row.rows c.requires.row.within c.index.ensures c.in-Concat.is).lists ∙ cut_first (places_in l old p.first) (places_in l old p.rest) i less)))
 
@@ -89,8 +88,7 @@ returns-in_ok-rest-in-Concat t c =
     let w = c.requires.row.within in
     let lf : p.first < length old = omega arith in
     let n : c.count-before.result ≡ count_at old p.first = cc in
-    let le : c.count-before.result ≤ i = omega arith in
     if_ok c.both-in-Concat.result c.both-in-Concat.ensures (λ s z. rope_rest old c.without-in-Concat.new.scopes.items c.both-in-Concat.new.scopes.items c.in_ok-rest-in-Concat.rest s p.first _ _ c.in_ok-rest-in-Concat.ensures z lf
     (λ l h.
     sym (ap (cut i) (row_is l old c.args.scope _ _ c.requires.row.rows c.requires.row.within c.index.ensures c.in-Concat.is).lists
-    ∙ cut_rest (places_in l old p.first) (places_in l old p.rest) i c.count-before.result (n ∙ count_places l old p.first h lf) le)))
+    ∙ cut_rest (places_in l old p.first) (places_in l old p.rest) i c.count-before.result (n ∙ count_places l old p.first h lf) (omega arith))))

@@ -17,9 +17,8 @@ returns-in-Concat-index c =
     let lt : high.rest < length old = omega arith in
     let two = row_is [] old high.rest _ _ c.requires.rows lt c.index-then-height.ensures c.in-Concat-index.is in
     let q : middle.rest < high.rest = two.row.1 in
-    let lr : middle.rest < length old = omega arith in
     if_ok c.pair-in-Concat-index-3.result c.pair-in-Concat-index-3.ensures (λ s z. rope_two old c.pair-in-Concat-index.new.scopes.items c.pair-in-Concat-index-2.new.scopes.items c.pair-in-Concat-index-3.new.scopes.items
-    c.in_ok-left.left c.in_ok-right.right s high.first middle.first middle.rest c.args.rest _ c.in_ok-left.ensures c.in_ok-right.ensures z lr c.requires.rest
+    c.in_ok-left.left c.in_ok-right.right s high.first middle.first middle.rest c.args.rest _ c.in_ok-left.ensures c.in_ok-right.ensures z (omega arith) c.requires.rest
     (λ l h. regroup (places_in l old high.first) (places_in l old middle.first) (places_in l old middle.rest) (places_in l old c.args.rest)
     ∙ ap (λ xs. (places_in l old high.first ++ xs) ++ places_in l old c.args.rest) (sym (row_is l old high.rest _ _ c.requires.rows lt c.index-then-height.ensures c.in-Concat-index.is).lists)
     ∙ ap (λ xs. xs ++ places_in l old c.args.rest) (sym (row_is l old c.args.first _ _ c.requires.rows c.requires.first c.index.ensures c.in-Concat.is).lists)))

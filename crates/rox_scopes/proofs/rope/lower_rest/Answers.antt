@@ -16,12 +16,10 @@ returns-in-Concat-index c =
     let r : high.rest < c.args.rest = one.row.1 in
     let k = c.requires.rest in
     let lf : high.first < length old = omega arith in
-    let lt : high.rest < length old = omega arith in
     let two = row_is [] old high.first _ _ c.requires.rows lf c.index-then-height.ensures c.in-Concat-index.is in
     let q : middle.rest < high.first = two.row.1 in
-    let lr : middle.rest < length old = omega arith in
     if_ok c.pair-in-Concat-index-3.result c.pair-in-Concat-index-3.ensures (λ s z. rope_two old c.pair-in-Concat-index.new.scopes.items c.pair-in-Concat-index-2.new.scopes.items c.pair-in-Concat-index-3.new.scopes.items
-    c.in_ok-left.left c.in_ok-right.right s c.args.first middle.first middle.rest high.rest _ c.in_ok-left.ensures c.in_ok-right.ensures z lr lt
+    c.in_ok-left.left c.in_ok-right.right s c.args.first middle.first middle.rest high.rest _ c.in_ok-left.ensures c.in_ok-right.ensures z (omega arith) (omega arith)
     (λ l h. regroup (places_in l old c.args.first) (places_in l old middle.first) (places_in l old middle.rest) (places_in l old high.rest)
     ∙ ap (λ xs. places_in l old c.args.first ++ (xs ++ places_in l old high.rest)) (sym (row_is l old high.first _ _ c.requires.rows lf c.index-then-height.ensures c.in-Concat-index.is).lists)
     ∙ ap (λ xs. places_in l old c.args.first ++ xs) (sym (row_is l old c.args.rest _ _ c.requires.rows c.requires.rest c.index.ensures c.in-Concat.is).lists)))

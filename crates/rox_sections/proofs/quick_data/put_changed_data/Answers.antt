@@ -1,11 +1,9 @@
 use Rattle.std.proofs.Common.{◌≡◌, false, Ok, slice_range, refl, sym, ◌∙◌, arith}
 use Rattle.std.specs.String.{string_bytes}
 use Rattle.std.proofs.lemmas.Bool.{eqb-true}
-use Rattle.rox_reading.specs.Values.{ReadText}
 use Rattle.rox_builder.specs.BuilderState.{KeepsOpen}
 use Rattle.rox_builder.proofs.Stepping.{parted_run, same_shows}
 use Rattle.rox_sections.proofs.ChangedRuns.{changed_run}
-use Rattle.rox_sections.proofs.PlainReads.{keeps_all, runs_not}
 use Rattle.rox_sections.proofs.Twice.{text_stepped_at}
 use Rattle.rox_sections.proofs.quick_data.put_changed_data.Goals as goal
 
@@ -22,15 +20,13 @@ returns c =
     let kept : KeepsOpen b u = record { opened = k.opened; tables = k.tables; limit = k.limit; openings_left = k.openings_left } in
     let given = c.changed_data.ensures c.if-not-changed_data.false in
     let bytes = string_bytes c.changed_data.new.out in
-    let short = c.requires.room.short in
     record {
       value = λ _ context end s here behind main start stop h.
-          let text : ReadText = record { value = bytes; borrowed = false } in
           let from : i ≡ s.at = sym start ∙ h.here in
           rw (parted_run context src s i j (slice_range src i j) from run.value run.changes, changed_run context src s i j bytes from main run.some run.within given)
-          (text_stepped_at context.limit end s here behind i j b u (Ok tt) text start stop h kept
+          (text_stepped_at context.limit end s here behind i j b u (Ok tt) (record { value = bytes; borrowed = false }) start stop h kept
           (rw (c.in-Ok.ensures.bytes ∙ c.as_str-changed.ensures.value, c.in-Ok.ensures.owned) at (put.adds.value end j s (same_shows end s.stack s.done b _ h.shows refl refl refl refl refl))));
-      other = λ no. absurd (omega (arith, no, short, run.within));
+      other = λ no. absurd (omega (arith, no, c.requires.room.short, run.within));
       cut = λ _. run.cut;
       ready = λ _ most r. put.ready most (record { room = r.room; few = r.few; small = r.small; settled = r.settled });
       moves = λ _. run.some;
@@ -39,21 +35,3 @@ returns c =
       rows = λ _. put.rows;
       behind = λ _. eqb-true _ _ (sym c.is_at-is_before_markup.ensures ∙ c.if-not-is_before_markup.false);
     }
-
-pub returns-then-not-is_before_markup : goal.returns-then-not-is_before_markup
-returns-then-not-is_before_markup c = runs_not _ c.args.text.now c.args.start _ c.args.builder.now c.args.builder.now (omega arith) (keeps_all c.args.builder.now) refl refl
-
-pub returns-in_default : goal.returns-in_default
-returns-in_default c = runs_not _ c.args.text.now c.args.start _ c.args.builder.now c.args.builder.now (omega arith) (keeps_all c.args.builder.now) refl refl
-
-pub put_text-requires : goal.put_text-requires
-put_text-requires c = grind arith
-
-pub invariant_of-builder : goal.invariant_of-builder
-invariant_of-builder c = record { few = c.args.builder.now.few; counted = c.args.builder.now.counted; shallow = c.args.builder.now.shallow }
-
-pub invariant_of-builder-in-Ok-1 : goal.invariant_of-builder-in-Ok-1
-invariant_of-builder-in-Ok-1 c = record { few = c.args.builder.now.few; counted = c.args.builder.now.counted; shallow = c.args.builder.now.shallow }
-
-pub invariant_of-builder-then-not-changed_data : goal.invariant_of-builder-then-not-changed_data
-invariant_of-builder-then-not-changed_data c = record { few = c.args.builder.now.few; counted = c.args.builder.now.counted; shallow = c.args.builder.now.shallow }

@@ -1,4 +1,4 @@
-use Rattle.std.proofs.Common.{true, Ok, refl, slice_index, slice_range, ap, ◌∙◌, arith}
+use Rattle.std.proofs.Common.{true, Ok, refl, slice_index, slice_range, ap, ◌∙◌}
 use Rattle.std.proofs.Math.Arith.{lt_of_le-ne}
 use Rattle.rox_reading.specs.Values.{ReadText}
 use Rattle.rox_scan.proofs.ShortLemmas.{ended_run}
@@ -26,6 +26,3 @@ returns c = record {
   rows = λ _. c.put_text.ensures.rows;
   behind = λ _. c.in-Some.ensures.here;
 }
-
-pub put_text-requires : goal.put_text-requires
-put_text-requires c = grind arith

@@ -16,7 +16,6 @@ returns c =
     let put = c.put_text.ensures in
     let u = c.put_text.new.self in
     let kept : KeepsOpen b u = record { opened = put.adds.kept.opened; tables = put.adds.kept.tables; limit = put.adds.kept.limit; openings_left = put.adds.kept.openings_left } in
-    let short = c.requires.here.room.short in
     record {
       value = λ _ context end s here behind main start stop h.
           let text : ReadText = record { value = slice_range src (i + 1) j; borrowed = false } in
@@ -24,7 +23,7 @@ returns c =
           rw (parted_run context src s i j (slice_range src i j) from run.value run.verbatim, line_run context src s i j from main run.line)
           (text_stepped_at context.limit end s here behind i j b u (Ok tt) text start stop h kept
           (rw (c.requires.owned.bytes, c.requires.owned.owned) at (put.adds.value end j s (same_shows end s.stack s.done b _ h.shows refl refl refl refl refl))));
-      other = λ no. absurd (omega (arith, no, short, run.line.within));
+      other = λ no. absurd (omega (arith, no, c.requires.here.room.short, run.line.within));
       cut = λ _. run.cut;
       ready = λ _ most r. put.ready most (record { room = r.room; few = r.few; small = r.small; settled = r.settled });
       moves = λ _. omega (arith, run.line.some);
@@ -33,6 +32,3 @@ returns c =
       rows = λ _. put.rows;
       behind = λ _. c.requires.behind;
     }
-
-pub put_text-requires : goal.put_text-requires
-put_text-requires c = grind arith

@@ -16,9 +16,3 @@ returns c =
       rows = λ _. read.rows (omega (arith, less));
       behind = λ _. read.behind (omega (arith, less));
     }
-
-pub returns-then-end-gt-MOST_BYTES : goal.returns-then-end-gt-MOST_BYTES
-returns-then-end-gt-MOST_BYTES c = grind arith
-
-pub invariant_of-cursor : goal.invariant_of-cursor
-invariant_of-cursor c = record { utf8 = c.args.cursor.now.utf8; cut = c.put_line_end-end.ensures.cut (omega (arith, c.if-end-gt-MOST_BYTES.false)) }

@@ -8,22 +8,13 @@ use Rattle.rox_grammar.specs.Search.{stands}
 use Rattle.rox_reading.specs.Machine.{step}
 use Rattle.rox_reading.specs.Markup.{cdata_at}
 use Rattle.rox_theory.proofs.MarkupLemmas.{cdata_sound}
-use Rattle.rox_values.specs.Values.{piece_view, section_text}
+use Rattle.rox_values.specs.Values.{piece_view}
 use Rattle.rox_builder.specs.BuilderState.{KeepsOpen, ScansTo}
 use Rattle.rox_builder.proofs.Stepping.{cdata_is, fine_open, rows_kept, same_shows, text_stepped}
 use Rattle.rox_sections.specs.PlainSteps.{Reads}
 use Rattle.rox_sections.proofs.PlainSections.{step_is_section}
 use Rattle.rox_sections.proofs.Twice.{inside_still, reads_kept, reads_one, reads_then}
 use Rattle.rox_sections.proofs.quick_sections.join_section.Goals as goal
-
-pub returns-then-not-starts : goal.returns-then-not-starts
-returns-then-not-starts c = grind arith
-
-pub returns-in_default : goal.returns-in_default
-returns-in_default c = grind arith
-
-pub returns-then-not-waits : goal.returns-then-not-waits
-returns-then-not-waits c = grind arith
 
 pub returns : goal.returns
 returns c =
@@ -44,11 +35,10 @@ returns c =
     record {
       value = λ _ context end s inner h.
           let t = piece_view c.in-Some.piece (string_bytes c.section_piece.new.scratch) in
-          let is : section_text raw ≡ t = section.2 in
           let a = c.in_ok-waits.ensures.value c.if-not-waits.false end j s (same_shows end s.stack s.done b _ h.shows refl refl refl refl refl) in
           let within : s.at < length src = omega (arith, stands_fits (word_text word.CDataStart) src i (omega arith) opens, h.here) in
           let stepped : ScansTo context.limit end (Ok tt) new u (step context src s) =
-          rw (step_is_section context src s i h.here opens, cdata_is context.limit src s i j raw t h.here read is)
+          rw (step_is_section context src s i h.here opens, cdata_is context.limit src s i j raw t h.here read section.2)
           (text_stepped context.limit end s c.args.cursor.now new b u (Ok tt) t h kept.tables kept.limit kept.openings_left a) in
           let x : Reads context end 1 new u src s = reads_one context end src s new u inner within stepped in
           let still : is_root x.behind.stack ≡ false = inside_still end s x.behind b u h.shows x.sees.shows kept.opened inner in

@@ -9,13 +9,12 @@ use Rattle.rox_sections.proofs.quick_sections.put_comment.Goals as goal
 pub returns : goal.returns
 returns c = record {
   value = λ _ context end s _ h.
-      let src = c.args.cursor.now.text.now in
       let text = c.in-Some.whole.text.now in
       let j = c.in-Some.whole.end in
       let b = c.args.builder.now in
       let i : Item = Comment s.at j text in
       let a = c.put_leaf.ensures.adds.value end j s i h.shows (record { is = ap (λ (n : ℕ). tree.Comment n j text) h.here; within = refl; no_text = refl }) in
-      rw (comment_is context.limit src s c.args.cursor.now.pos j text h.here c.in-Some.ensures.read)
+      rw (comment_is context.limit c.args.cursor.now.text.now s c.args.cursor.now.pos j text h.here c.in-Some.ensures.read)
       (item_stepped context.limit end s c.args.cursor.now _ b c.put_leaf.new.self (Ok tt) i h refl refl c.put_leaf.ensures.adds.kept.tables c.put_leaf.ensures.adds.kept.limit c.put_leaf.ensures.adds.kept.openings_left a);
   other = λ no. absurd (cc no);
   ready = λ _. c.put_leaf.ensures.ready;

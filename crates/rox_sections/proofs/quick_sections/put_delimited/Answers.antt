@@ -16,6 +16,3 @@ returns c = record {
   moves = λ _. c.put_comment.ensures.moves c.if-not-put_comment.false;
   fine = c.put_comment.ensures.goes.fine;
 }
-
-pub returns-then-not-put_comment : goal.returns-then-not-put_comment
-returns-then-not-put_comment c = grind arith

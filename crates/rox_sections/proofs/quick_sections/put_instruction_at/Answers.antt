@@ -9,7 +9,7 @@ use Rattle.rox_markup.specs.Views.{instruction_view}
 use Rattle.rox_theory.proofs.MarkupLemmas.{instruction_sound}
 use Rattle.rox_builder.proofs.Stepping.{instruction_is, item_stepped}
 use Rattle.rox_sections.proofs.PlainReads.{fine_same}
-use Rattle.rox_sections.proofs.PlainSections.{section_not, step_is_instruction}
+use Rattle.rox_sections.proofs.PlainSections.{step_is_instruction}
 use Rattle.rox_sections.proofs.Twice.{scans_there}
 use Rattle.rox_sections.proofs.quick_sections.put_instruction_at.Goals as goal
 
@@ -21,7 +21,6 @@ returns c =
     let new = c.processing_instruction.new.cursor in
     let u = c.put_instruction.new.self in
     let j = new.pos in
-    let short = c.requires.room.short in
     let source : new.text.now ≡ src = ap (λ t. t.now) c.in-Ok.ensures.source in
     let opens : stands (word_text word.PIStart) src c.args.start ≡ true = sym c.starts.ensures ∙ c.if-not-starts.false in
     let read : instruction_at src c.args.start ≡ Ok (p, j) = c.in-Ok.ensures.value in
@@ -35,22 +34,10 @@ returns c =
           rw (step_is_instruction context src s c.args.start from opens, instruction_is context.limit src s c.args.start j p from read)
           (scans_there context.limit end new behind u _ stop
           (item_stepped context.limit end s here new b u (Ok tt) i h refl refl adds.kept.tables adds.kept.limit adds.kept.openings_left a));
-      other = λ no. absurd (omega (arith, no, short, within));
+      other = λ no. absurd (omega (arith, no, c.requires.room.short, within));
       cut = λ _. rw source at new.cut;
       ready = λ _ most h. (c.put_instruction.ensures.ready most h).ready;
       apart = λ _ _. (c.put_instruction.ensures.ready _ c.requires.room.ready).apart;
       moves = λ _. (instruction_sound src c.utf8.text c.args.start j p opens read).4;
       fine = fine_same b u c.requires.room.fine adds.kept.tables adds.kept.opened;
     }
-
-pub returns-then-not-starts : goal.returns-then-not-starts
-returns-then-not-starts c = section_not c.args.text.now c.args.start _ c.args.builder.now (omega arith) c.requires.room.fine
-
-pub returns-then-not-has_room_for_instruction : goal.returns-then-not-has_room_for_instruction
-returns-then-not-has_room_for_instruction c = section_not c.args.text.now c.args.start _ c.args.builder.now (omega arith) c.requires.room.fine
-
-pub returns-in_default : goal.returns-in_default
-returns-in_default c = section_not c.args.text.now c.args.start _ c.args.builder.now (omega arith) c.requires.room.fine
-
-pub put_instruction-requires : goal.put_instruction-requires
-put_instruction-requires c = grind arith

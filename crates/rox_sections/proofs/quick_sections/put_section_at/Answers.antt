@@ -1,4 +1,4 @@
-use Rattle.std.proofs.Common.{◌≡◌, ◌≤◌, true, Ok, length, sym, ◌∙◌, arith}
+use Rattle.std.proofs.Common.{◌≡◌, true, Ok, sym, ◌∙◌, arith}
 use Rattle.std.proofs.lemmas.Bool.{eqb-true}
 use Rattle.rox_grammar.specs.declared.fault.Word.TheVariants as word
 use Rattle.rox_grammar.specs.FixedTexts.{word_text}
@@ -6,10 +6,9 @@ use Rattle.rox_grammar.specs.Search.{stands}
 use Rattle.rox_reading.specs.Markup.{cdata_at}
 use Rattle.rox_reading.specs.Values.{ReadText}
 use Rattle.rox_theory.proofs.MarkupLemmas.{cdata_sound}
-use Rattle.rox_values.specs.Values.{section_text}
 use Rattle.rox_builder.proofs.Stepping.{cdata_is}
 use Rattle.rox_sections.proofs.PlainReads.{fine_same}
-use Rattle.rox_sections.proofs.PlainSections.{section_not, step_is_section}
+use Rattle.rox_sections.proofs.PlainSections.{step_is_section}
 use Rattle.rox_sections.proofs.Twice.{text_stepped_at}
 use Rattle.rox_sections.proofs.quick_sections.put_section_at.Goals as goal
 
@@ -20,38 +19,20 @@ returns c =
     let section = c.in-Some.section in
     let raw = section.text.now in
     let j = section.end in
-    let short = c.requires.room.short in
     let opens : stands (word_text word.CDataStart) src c.args.start ≡ true = sym c.starts.ensures ∙ c.if-not-starts.false in
     let read : cdata_at src c.args.start ≡ Ok (raw, j) = c.in-Some.ensures.read in
-    let within : j ≤ length src = c.in-Some.ensures.cut.0 in
     let adds = c.put_text.ensures.adds in
     let text : ReadText = record { value = raw; borrowed = true } in
-    let is : section_text raw ≡ text = c.in-Some.ensures.plain in
     record {
       value = λ _ context end s here behind start stop h.
           let from : c.args.start ≡ s.at = sym start ∙ h.here in
-          rw (step_is_section context src s c.args.start from opens, cdata_is context.limit src s c.args.start j raw text from read is)
+          rw (step_is_section context src s c.args.start from opens, cdata_is context.limit src s c.args.start j raw text from read c.in-Some.ensures.plain)
           (text_stepped_at context.limit end s here behind c.args.start j b c.put_text.new.self (Ok tt) text start stop h adds.kept
           (adds.value end j s h.shows));
-      other = λ no. absurd (omega (arith, no, short, within));
+      other = λ no. absurd (omega (arith, no, c.requires.room.short, c.in-Some.ensures.cut.0));
       cut = λ _. c.in-Some.ensures.cut;
       ready = λ _. c.put_text.ensures.ready;
       apart = λ _ other. absurd (other (eqb-true _ _ (sym c.is_at.ensures ∙ c.if-not-is_at.false)));
       moves = λ _. (cdata_sound src c.utf8.text c.args.start j raw opens read).3;
       fine = fine_same b c.put_text.new.self c.requires.room.fine adds.kept.tables adds.kept.opened;
     }
-
-pub returns-then-is_text_open : goal.returns-then-is_text_open
-returns-then-is_text_open c = section_not c.args.text.now c.args.start _ c.args.builder.now (omega arith) c.requires.room.fine
-
-pub returns-then-not-starts : goal.returns-then-not-starts
-returns-then-not-starts c = section_not c.args.text.now c.args.start _ c.args.builder.now (omega arith) c.requires.room.fine
-
-pub returns-in_default : goal.returns-in_default
-returns-in_default c = section_not c.args.text.now c.args.start _ c.args.builder.now (omega arith) c.requires.room.fine
-
-pub returns-then-not-is_at : goal.returns-then-not-is_at
-returns-then-not-is_at c = section_not c.args.text.now c.args.start _ c.args.builder.now (omega arith) c.requires.room.fine
-
-pub put_text-requires : goal.put_text-requires
-put_text-requires c = grind arith

@@ -1,5 +1,4 @@
 use Rattle.std.proofs.Common.{◌≡◌, true, refl, arith}
-use Rattle.std.specs.Str.{IsCharBoundary}
 use Rattle.rox_grammar.specs.FixedTexts.{word_text}
 use Rattle.rox_grammar.specs.Search.{stands}
 use Rattle.rox_grammar.specs.declared.fault.Word.TheVariants as word
@@ -17,10 +16,9 @@ returns c =
     let n = c.in_ok-end.ensures.ends in
     let u = c.skip.new.self in
     let here : stands (word_text word.CDataEnd) src e ≡ true = c.is_section_end.ensures c.if-not-is_section_end.false in
-    let start : IsCharBoundary src u.pos = rw c.skip.ensures.source at u.cut in
     let cut = end_cut src e here in
     record {
-      read = rw c.range.ensures.value (set_read src c.args.from.pos u.pos e c.args.from.utf8 start c.skip.ensures.place n.onward cut n.passes here);
+      read = rw c.range.ensures.value (set_read src c.args.from.pos u.pos e c.args.from.utf8 (rw c.skip.ensures.source at u.cut) c.skip.ensures.place n.onward cut n.passes here);
       plain = rw c.range.ensures.value (set_verbatim src u.pos e n.onward n.within n.passes);
       cut = stands_cut (word_text word.CDataEnd) src e 2 refl c.args.from.utf8 (omega arith) here;
     }

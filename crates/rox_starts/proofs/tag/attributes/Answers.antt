@@ -16,9 +16,8 @@ returns-then-is_at_end c = record {
   source = c.attributes.invariant.source;
   took = λ es known before h declared o hold.
       let src = c.args.cursor.now.text.now in
-      let s = ap (λ t. t.now) c.attributes.invariant.source in
       let g = c.attributes.invariant.reads es known before h declared o hold in
-      let past : length src ≤ c.attributes.cursor.pos = rw s at (leb-true _ _ (sym c.is_at_end.ensures ∙ c.if-is_at_end.true)) in
+      let past : length src ≤ c.attributes.cursor.pos = rw (ap (λ t. t.now) c.attributes.invariant.source) at (leb-true _ _ (sym c.is_at_end.ensures ∙ c.if-is_at_end.true)) in
       going_cut (values_in es c.args.context) known before c.args.tag.cut src _ _ c.attributes.cursor.pos c.attributes.openings_left _ _ _ _ g past;
 }
 
@@ -107,6 +106,5 @@ returns c = record {
       let src = c.args.cursor.now.text.now in
       let g = c.attributes.invariant.reads es known before h declared o hold in
       let t = c.attributes-test.false in
-      let none : length src - c.attributes._turn ≡ 0 = omega arith in
-      going_none (values_in es c.args.context) known before c.args.tag.cut src _ _ c.attributes.cursor.pos c.attributes.openings_left _ _ _ _ g none;
+      going_none (values_in es c.args.context) known before c.args.tag.cut src _ _ c.attributes.cursor.pos c.attributes.openings_left _ _ _ _ g (omega arith);
 }

@@ -17,9 +17,6 @@ use Rattle.rox_reading.proofs.AtIndex.{option_more}
 use Rattle.rox_starts.proofs.Starting.{tested_known}
 use Rattle.rox_starts.proofs.tag.element_data.Goals as goal
 
-pub few_places-few-requires : goal.few_places-few-requires
-few_places-few-requires c = rw (c.deref.ensures.value, c.deref-2.ensures.value) (record { scopes = c.requires.scopes; within = c.requires.within })
-
 pub resolve-requires : goal.resolve-requires
 resolve-requires c = grind (arith, looks_for)
 
@@ -38,8 +35,7 @@ element_of-requires c =
     let namespaces = map namespace_view t.namespaces.items.items in
     let scope = scope_at (lists_in t) c.args.scope in
     let written = map unresolved_view c.args.taken.now.items in
-    let count = length (attribute_rows t.attributes) in
-    let few : count + length written ≤ most_attributes =
+    let few : (length (attribute_rows t.attributes)) + length written ≤ most_attributes =
     (let k = c.args.taken.now.ok.0 in let a = c.if-len-from.false in let b = c.len-from.ensures in let l = c.len.ensures in let most = c.requires.few in let m = length-map c.args.taken.now.items unresolved_view in omega arith) in
     let finds = found_for t c.deref.result.now c.deref-2.result.now c.few_places-few.result c.args.scope c.deref.ensures.value c.deref-2.ensures.value c.few_places-few.ensures.few c.few_places-few.ensures.many c.requires.present in
     let here = seen_by t c.as_slice.result.now (places_view c.few_places-few.result) scope c.as_slice.ensures.value finds in
@@ -58,7 +54,6 @@ returns c =
     let scope = scope_at (lists_in t) c.args.scope in
     let written = map unresolved_view c.args.taken.now.items in
     let count = length (attribute_rows t.attributes) in
-    let name = name_view c.args.name in
     let few : count + length written ≤ most_attributes =
     (let k = c.args.taken.now.ok.0 in let a = c.if-len-from.false in let b = c.len-from.ensures in let l = c.len.ensures in let most = c.requires.few in let m = length-map c.args.taken.now.items unresolved_view in omega arith) in
     let finds = found_for t c.deref.result.now c.deref-2.result.now c.few_places-few.result c.args.scope c.deref.ensures.value c.deref-2.ensures.value c.few_places-few.ensures.few c.few_places-few.ensures.many c.requires.present in
@@ -66,17 +61,15 @@ returns c =
     let here2 = seen_by t c.as_slice-2.result.now (places_view c.few_places-few.result) scope c.as_slice-2.ensures.value finds in
     record {
       others = search rules;
-      tested = tested_known scope count c.args.at name written few (c.in_ok-resolve.ensures scope here).0 (c.in_ok-namespace.ensures.ok scope here2).1;
+      tested = tested_known scope count c.args.at (name_view c.args.name) written few (c.in_ok-resolve.ensures scope here).0 (c.in_ok-namespace.ensures.ok scope here2).1;
       element =
-          let seen : map namespace_view c.as_slice.result.now ≡ namespaces = ap (map namespace_view) c.as_slice.ensures.value in
-          let seen2 : map namespace_view c.as_slice-2.result.now ≡ namespaces = ap (map namespace_view) c.as_slice-2.ensures.value in
           let moved = (c.in_ok-resolve.ensures scope here).1 in
           let named = c.in_ok-namespace.ensures.ok scope here2 in
           let o = c.in_ok-namespace.namespace in
           let place = subst (λ (n : ℕ). OptionWithin n o) (ap length c.as_slice-2.ensures.value) c.in_ok-namespace.ensures.within in
           let number = c.namespace_number-number.ensures (option_more (length t.namespaces.items.items) most_pairs o c.requires.few_names place) in
           let same : map (attribute namespaces) moved.0 ≡ map (attribute_in scope) written =
-          ap (λ ns. map (attribute ns) moved.0) (sym seen) ∙ moved.2 in
+          ap (λ ns. map (attribute ns) moved.0) (sym (ap (map namespace_view) c.as_slice.ensures.value)) ∙ moved.2 in
           let wide : length c.as_slice.result.now ≡ length namespaces = ap length c.as_slice.ensures.value ∙ sym (length-map t.namespaces.items.items namespace_view) in
           let grown = ap length moved.1 ∙ length-append (attribute_rows t.attributes) moved.0 in
           let n = ap length same in
@@ -94,7 +87,7 @@ returns c =
             attributes_until = made.attributes_until;
             few = omega arith;
             local = ap (λ (l : Bor (List ℕ)). l.now) made.local;
-            namespace = rw (made.namespace, number) (ap (λ ns. option_map (λ i. (namespace_at ns i).uri) o) (sym seen2) ∙ named.0);
+            namespace = rw (made.namespace, number) (ap (λ ns. option_map (λ i. (namespace_at ns i).uri) o) (sym (ap (map namespace_view) c.as_slice-2.ensures.value)) ∙ named.0);
             namespace_within = rw (made.namespace, number) place;
             scope_within = rw made.scope c.requires.within;
             lists = ap (scope_at (lists_in t)) made.scope;

@@ -39,9 +39,6 @@ attributes-requires c =
     } in
     tables
 
-pub scope_of_tag-requires : goal.scope_of_tag-requires
-scope_of_tag-requires c = grind arith
-
 pub returns-in_err-xml : goal.returns-in_err-xml
 returns-in_err-xml c = record {
   source = c.attributes.ensures.source ∙ c.qname.ensures.source ∙ c.advance.ensures.source;
@@ -61,9 +58,8 @@ returns-in_err-xml c = record {
       let k = old.listed.ok.0 in
       let own : c.len-own.result ≡ length old.listed.items = omega arith in
       let few : length known ≤ most_pairs = rw (length-map old.namespaces.items.items namespace_view) c.requires.below.few in
-      let start : TagSoFar = record { own = []; attributes = [] } in
       let nothing = holds_nothing known old.listed.items _ few c.clear.ensures.items in
-      let took = c.in_err-xml.ensures.took es known old.listed.items start declared own nothing in
+      let took = c.in_err-xml.ensures.took es known old.listed.items (record { own = []; attributes = [] }) declared own nothing in
       let p = err_from_is_err_and c.from_residual-in_err-xml.result c.from_residual-in_err-xml.ensures.1 in
       rw (p.1, p.2) (tag_unread (values_in es c.args.context) c.args.around.cut above (length (attribute_rows old.attributes)) known src i c.args.around.openings_left name n c.in_err-xml.field-0.0 is other (rw s2 at took));
 }
@@ -145,6 +141,3 @@ returns c = record {
             c.in_ok-scope.ensures.scopes scopes (ap (λ (x : ElementTables). x.namespaces) c.in_ok-element.ensures.others) (ap (λ (x : ElementTables). x.listed) c.in_ok-element.ensures.others) (ap (λ (x : ElementTables). x.scopes) c.in_ok-element.ensures.others) c.in_ok-element.ensures.element c.in_ok-scope.ensures.kept (ap (λ (x : ElementTables). x.present) c.in_ok-element.ensures.others) c.in_ok-scope.ensures.once,
       );
 }
-
-pub element_data-requires : goal.element_data-requires
-element_data-requires c = grind arith

@@ -1,6 +1,6 @@
 use Rattle.std.proofs.Common.{sym, ◌∙◌, arith}
 use Rattle.std.proofs.lemmas.Bool.{eqb-true}
-use Rattle.rox_tags.proofs.OwnNames.{colon_stops, declares_prefix, declares_whole, equals_stops, first_part}
+use Rattle.rox_tags.proofs.OwnNames.{colon_stops, declares_whole, equals_stops, first_part}
 use Rattle.rox_tags.proofs.own_declaration.declared_name.Goals as goal
 
 pub prefixed_name-requires : goal.prefixed_name-requires
@@ -13,6 +13,3 @@ name_without_prefix-requires c =
 
 pub returns : goal.returns
 returns c = grind (arith, first_part, equals_stops, declares_whole)
-
-pub returns-then-is_at : goal.returns-then-is_at
-returns-then-is_at c = declares_prefix c.args.text.now c.args.start c.prefixed_name.result c.requires c.prefixed_name.ensures

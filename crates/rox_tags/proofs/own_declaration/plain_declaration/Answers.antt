@@ -8,9 +8,7 @@ use Rattle.rox_tags.proofs.own_declaration.plain_declaration.Goals as goal
 pub returns : goal.returns
 returns c =
     let src = c.args.text.now in
-    let i = c.args.start in
     let found = c.in_ok-name.ensures in
-    let name = c.in_ok-name.name.name in
     let n = c.in_ok-name.name.end in
     let s = n + 2 in
     let q = c.quote_before-quote.result in
@@ -28,7 +26,7 @@ returns c =
     record {
       plain = record {
         value_end = j;
-        read = attribute_reads src i (name_view name) n s q j e found.named.value v here is_quote (not_zero q is_quote) w.read w.here done;
+        read = attribute_reads src c.args.start (name_view c.in_ok-name.name.name) n s q j e found.named.value v here is_quote (not_zero q is_quote) w.read w.here done;
         start = refl;
         end = done;
         value = λ main es opener openings_left. rw w.is (value_is main es opener src s j openings_left w.verbatim);

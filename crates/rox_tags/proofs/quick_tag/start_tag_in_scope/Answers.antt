@@ -4,6 +4,3 @@ use Rattle.rox_tags.proofs.quick_tag.start_tag_in_scope.Goals as goal
 
 pub tag_namespace-requires : goal.tag_namespace-requires
 tag_namespace-requires c = grind (arith, name_apart)
-
-pub start_tag_named-requires : goal.start_tag_named-requires
-start_tag_named-requires c = grind arith

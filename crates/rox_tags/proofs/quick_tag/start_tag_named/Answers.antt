@@ -1,12 +1,6 @@
-use Rattle.std.proofs.Common.{refl, arith, length-append}
+use Rattle.std.proofs.Common.{refl}
 use Rattle.rox_tags.proofs.WholeTags.{plain_tagged}
 use Rattle.rox_tags.proofs.quick_tag.start_tag_named.Goals as goal
-
-pub tag_attributes_if_any-requires : goal.tag_attributes_if_any-requires
-tag_attributes_if_any-requires c = grind arith
-
-pub element_of-element-requires : goal.element_of-element-requires
-element_of-element-requires c = grind (arith, length-append)
 
 pub returns : goal.returns
 returns c =

@@ -1,24 +1,14 @@
-use Rattle.std.proofs.Common.{◌≡◌, ◌+◌, [], false, map, refl, arith, slice_index}
-use Rattle.std.specs.Option.{option_map}
-use Rattle.rox_grammar.specs.Tree.{element_namespace}
+use Rattle.std.proofs.Common.{◌≡◌, ◌+◌, [], map, refl, arith, slice_index}
 use Rattle.rox_grammar.specs.Written.{Name}
 use Rattle.rox_bytes.proofs.NearLemmas.{part_cut}
-use Rattle.rox_rows.specs.Rows.{numbered_place}
-use Rattle.rox_reading.specs.AtIndex.{namespace_at}
 use Rattle.rox_scopes.specs.NamespaceViews.{namespace_view}
-use Rattle.rox_names.specs.OpenElements.{open_name}
-use Rattle.rox_names.specs.TagScopes.{scope_in_tables}
 use Rattle.rox_attributes.specs.PlainAttribute.{HasScope}
-use Rattle.rox_tags.specs.TagAttributes.{ArePlainAttributes}
 use Rattle.rox_bytes.proofs.RunLemmas.{stands_within}
 use Rattle.rox_verbatim.proofs.Verbatim.{no_space}
 use Rattle.rox_tags.proofs.TagAttributes.{holds_start, opens_there}
-use Rattle.rox_tags.proofs.WholeTags.{in_scope, plain_tagged}
+use Rattle.rox_tags.proofs.WholeTags.{plain_tagged}
 use Rattle.rox_names.proofs.SpelledNames.{unprefixed_name}
 use Rattle.rox_tags.proofs.quick_tag.start_tag_of_name.Goals as goal
-
-pub element_of-element-requires : goal.element_of-element-requires
-element_of-element-requires c = record { within = omega (arith, c.len-from.ensures); few = c.requires.few_attributes }
 
 pub returns : goal.returns
 returns c =
@@ -28,22 +18,17 @@ returns c =
     let i = c.args.start in
     let n = c.args.near in
     let namespaces = map namespace_view t.namespaces.items.items in
-    let j = c.after_byte-end.result in
     let start = c.after_byte-name_at.ensures.place in
     let here : slice_index src n ≡ 62 = c.requires.closed in
     let cut = part_cut src (i + 1) n c.utf8.text (rw (← start) c.after_byte-name_at.ensures.cut) c.requires.near.ends.onward c.requires.near.ends.within c.requires.near.ends.passes in
     let spaces = no_space src n c.utf8.text cut (stands_within src n 62 here (omega arith)) (omega (arith, here)) in
-    let tag = in_scope o.scope in
     let parent = c.requires.below.parent in
     let begins : HasScope t o.scope = record { places = c.requires.below.places; scopes = c.requires.below.scopes; within = parent.0; once = parent.1 } in
-    let x : ArePlainAttributes tag t t src n j false = grind (arith, opens_there, holds_start) in
     let is = rw start at c.ascii_name-local.ensures in
-    let bare : (open_name o).prefix ≡ [] = unprefixed_name o parent.2 c.if-parent.false in
     let name : Name = record { prefix = []; local = c.ascii_name-local.result.now } in
-    let space : option_map (λ i. (namespace_at namespaces i).uri) (numbered_place o.namespace) ≡ element_namespace (scope_in_tables t o.scope) name = rw bare at parent.3.is in
     record {
-      read = plain_tagged t t o src i n j _ c.len-from.result o.namespace c.requires.below x
+      read = plain_tagged t t o src i n c.after_byte-end.result _ c.len-from.result o.namespace c.requires.below (grind (arith, opens_there, holds_start))
           is refl start refl c.element_of-element.ensures c.len-from.ensures c.requires.few_attributes
-          (record { within = parent.3.within; is = space }) refl c.after_byte-end.ensures.cut;
+          (record { within = parent.3.within; is = (rw (unprefixed_name o parent.2 c.if-parent.false) at parent.3.is) }) refl c.after_byte-end.ensures.cut;
       opens = refl;
     }

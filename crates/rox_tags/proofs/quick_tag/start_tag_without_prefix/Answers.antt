@@ -1,4 +1,4 @@
-use Rattle.std.proofs.Common.{◌≡◌, [], map, refl, arith, length-append}
+use Rattle.std.proofs.Common.{◌≡◌, [], map, refl}
 use Rattle.std.specs.Option.{option_map}
 use Rattle.rox_grammar.specs.Tree.{element_namespace}
 use Rattle.rox_grammar.specs.Written.{Name}
@@ -10,12 +10,6 @@ use Rattle.rox_names.specs.OpenElements.{open_name}
 use Rattle.rox_tags.proofs.WholeTags.{plain_tagged}
 use Rattle.rox_names.proofs.SpelledNames.{unprefixed_name}
 use Rattle.rox_tags.proofs.quick_tag.start_tag_without_prefix.Goals as goal
-
-pub tag_attributes-requires : goal.tag_attributes-requires
-tag_attributes-requires c = grind arith
-
-pub element_of-element-requires : goal.element_of-element-requires
-element_of-element-requires c = grind (arith, length-append)
 
 pub returns : goal.returns
 returns c =

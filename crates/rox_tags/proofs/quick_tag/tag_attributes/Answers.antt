@@ -25,9 +25,6 @@ returns-then-not-next c =
 not_false : (b : Bool) → not b ≡ false → b ≡ true
 not_false b h = grind arith
 
-pub put_declaration-requires : goal.put_declaration-requires
-put_declaration-requires c = grind arith
-
 pub put_attribute-requires : goal.put_attribute-requires
 put_attribute-requires c =
     let l = c.loop-at in

@@ -9,9 +9,7 @@ returns-then-bytes-start-gt32 c =
     let start = c.args.start in
     let t = c.args.elements.now in
     let bytes = c.as_bytes-bytes.ensures in
-    let here = c.if-bytes-start-gt32.true in
-    let within = rw bytes.value at c.if-start-bytes.true in
-    let spaces = no_space src start c.utf8.text c.requires.cut (omega (arith, within)) (rw bytes.value at here) in
+    let spaces = no_space src start c.utf8.text c.requires.cut (omega (arith, (rw bytes.value at c.if-start-bytes.true))) (rw bytes.value at c.if-bytes-start-gt32.true) in
     let none = holds_start c.args.tag t src start c.requires.begins in
     let end = c.attributes_end.ensures in
     record {

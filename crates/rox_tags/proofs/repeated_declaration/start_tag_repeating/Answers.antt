@@ -1,22 +1,10 @@
-use Rattle.std.proofs.Common.{◌≡◌, false, bytes_eq, refl, sym, ◌∙◌, arith, length-append}
+use Rattle.std.proofs.Common.{◌≡◌, false, bytes_eq, refl, sym, ◌∙◌}
 use Rattle.rox_grammar.specs.declared.fault.Word.TheVariants.{Xmlns}
 use Rattle.rox_grammar.specs.FixedTexts.{word_text}
 use Rattle.rox_grammar.specs.Failures.{name_view}
 use Rattle.rox_tags.proofs.Repeating.{begins_repeating}
-use Rattle.rox_tags.proofs.WholeTags.{begun_tagged, scope_of_parent}
+use Rattle.rox_tags.proofs.WholeTags.{begun_tagged}
 use Rattle.rox_tags.proofs.repeated_declaration.start_tag_repeating.Goals as goal
-
-pub scope_repeating-requires : goal.scope_repeating-requires
-scope_repeating-requires c = record { scope = scope_of_parent c.args.elements.now c.args.parent.now c.requires.here.below; declares = c.in_ok-one.ensures.read.is }
-
-pub namespace_in_scope-requires : goal.namespace_in_scope-requires
-namespace_in_scope-requires c = grind arith
-
-pub tag_attributes_if_any-requires : goal.tag_attributes_if_any-requires
-tag_attributes_if_any-requires c = grind arith
-
-pub element_of-element-requires : goal.element_of-element-requires
-element_of-element-requires c = grind (arith, length-append)
 
 pub returns : goal.returns
 returns c =

@@ -50,8 +50,7 @@ value_text-put_plain_bits-at-requires t c = grind (arith, kind_tested)
 pub value_text-returns : goal.value_text-returns
 value_text-returns t c = λ es bits declared enough.
     let l = c.bits in
-    let r = l.invariant.reads es bits declared enough in
-    sym r.1.1 ∙ value_done c.args.context.main es _ l.openings_left (string_bytes l.out) _ _ _ _ (omega arith)
+    sym (l.invariant.reads es bits declared enough).1.1 ∙ value_done c.args.context.main es _ l.openings_left (string_bytes l.out) _ _ _ _ (omega arith)
 
 pub value_text-returns-then-at-stop : goal.value_text-returns-then-at-stop
 value_text-returns-then-at-stop t c = λ es bits declared enough.
@@ -65,20 +64,18 @@ value_text-returns-then-at-stop t c = λ es bits declared enough.
 pub value_text-returns-in_err-named : goal.value_text-returns-in_err-named
 value_text-returns-in_err-named t c = λ es bits declared enough.
     let p = err_from_is_err_and c.from_residual.result c.from_residual.ensures.1 in
-    let l = c.bits in
     let main = c.args.context.main in
     let opener = value_opener es c.args.context.depth_left main in
-    let r = l.invariant.reads es bits declared enough in
+    let r = c.bits.invariant.reads es bits declared enough in
     let q = c.put_plain_bits-at.ensures.puts.reads main r.0 (rw c.text_kind-kind.ensures (kind_may main)) r.1.0 in
     rw (p.1, p.2) (grind (arith, value_fails))
 
 pub value_text-returns-in_err-openings_left : goal.value_text-returns-in_err-openings_left
 value_text-returns-in_err-openings_left t c = λ es bits declared enough.
     let p = err_from_is_err_and c.from_residual-in_err-openings_left.result c.from_residual-in_err-openings_left.ensures.1 in
-    let l = c.bits in
     let main = c.args.context.main in
     let opener = value_opener es c.args.context.depth_left main in
-    let r = l.invariant.reads es bits declared enough in
+    let r = c.bits.invariant.reads es bits declared enough in
     let q = c.put_plain_bits-at.ensures.puts.reads main r.0 (rw c.text_kind-kind.ensures (kind_may main)) r.1.0 in
     rw (p.1, p.2) (grind (arith, value_opens_fails))
 
@@ -86,10 +83,9 @@ pub value_text-bits-preserved : goal.value_text-bits-preserved
 value_text-bits-preserved t c = record {
   cut = c.in_ok-named.ensures.cut;
   reads = λ es bits declared enough.
-      let l = c.bits in
       let main = c.args.context.main in
       let opener = value_opener es c.args.context.depth_left main in
-      let r = l.invariant.reads es bits declared enough in
+      let r = c.bits.invariant.reads es bits declared enough in
       let q = c.put_plain_bits-at.ensures.puts.reads main r.0 (rw c.text_kind-kind.ensures (kind_may main)) r.1.0 in
       let left = q.0 in
       let room = q.1.0 in

@@ -6,10 +6,9 @@ pub returns-then-near-stop : goal.returns-then-near-stop
 returns-then-near-stop c =
     let src = c.args.text.now in
     let r = c.requires.range in
-    let before = r.before in
     let s = c.skip_set-near.ensures in
     let e = front_ends src c.args.stop c.args.at c.skip_set-near.result c.args.stop r.stop_cut.0 (omega arith) (omega arith) (omega arith) s (λ less. absurd (omega (arith, less))) in
-    ends_data src c.args.stop c.args.at c.args.stop r.stop_cut before c.requires.no_reference c.requires.no_line_end e
+    ends_data src c.args.stop c.args.at c.args.stop r.stop_cut r.before c.requires.no_reference c.requires.no_line_end e
 
 pub returns : goal.returns
 returns c =

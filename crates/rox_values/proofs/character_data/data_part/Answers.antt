@@ -1,4 +1,4 @@
-use Rattle.std.proofs.Common.{◌-◌, arith}
+use Rattle.std.proofs.Common.{arith}
 use Rattle.rox_values.proofs.PartLemmas.{run_more, run_fails, run_done, run_out, run_opens}
 use Rattle.rox_values.proofs.character_data.data_part.Goals as goal
 

@@ -1,4 +1,4 @@
-use Rattle.std.proofs.Common.{◌<◌, arith}
+use Rattle.std.proofs.Common.{arith}
 use Rattle.std.specs.String.{string_bytes}
 use Rattle.rox_values.proofs.BitLemmas.{none_put, one_more, tested_on}
 use Rattle.rox_values.proofs.plain_bits.put_plain_bits.Goals as goal
@@ -14,17 +14,9 @@ pub bits-preserved : goal.bits-preserved
 bits-preserved c =
     let l = c.bits in
     let n = c.put_bit-after.result in
-    let some : 0 < n = omega arith in
-    let b = c.put_bit-after.ensures.puts.put some in
-    let on = b.onward in
+    let b = c.put_bit-after.ensures.puts.put (omega arith) in
     record {
       done = one_more c.args.kind c.args.text.now _ (string_bytes l.out) _ c.args.stop c.args.start l.at n c.bits-test.true l.invariant.done b;
       room = omega (arith, l.invariant.room, c.put_bit-after.ensures.stops.room);
-      tested = tested_on c.args.kind c.args.text.now l.at n c.args.stop c.utf8.text l.invariant.done.cut b.cut c.requires.stop (omega (arith, on)) l.invariant.tested;
+      tested = tested_on c.args.kind c.args.text.now l.at n c.args.stop c.utf8.text l.invariant.done.cut b.cut c.requires.stop (omega (arith, b.onward)) l.invariant.tested;
     }
-
-pub returns-then-after-eq0-clause-stops : goal.returns-then-after-eq0-clause-stops
-returns-then-after-eq0-clause-stops c = grind arith
-
-pub returns-clause-stops : goal.returns-clause-stops
-returns-clause-stops c = λ before enough. absurd (omega (arith, before, c.bits-test.false))

@@ -27,8 +27,7 @@ pub returns-in-Err-clause-stops : goal.returns-in-Err-clause-stops
 returns-in-Err-clause-stops c = λ stop.
     let src = c.args.text.now in
     let cur = c.at-cursor.ensures in
-    let read = rw (cur.source, cur.place) at c.in-Err.ensures.read.value in
-    item_stops c.args.kind src c.args.at stop _ _ (fault_stops c.args.kind src c.args.at stop _ c.requires.here read)
+    item_stops c.args.kind src c.args.at stop _ _ (fault_stops c.args.kind src c.args.at stop _ c.requires.here (rw (cur.source, cur.place) at c.in-Err.ensures.read.value))
 
 pub returns-in_default-clause-stops : goal.returns-in_default-clause-stops
 returns-in_default-clause-stops c = λ stop.

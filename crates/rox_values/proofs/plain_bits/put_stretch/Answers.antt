@@ -4,6 +4,3 @@ use Rattle.rox_values.proofs.plain_bits.put_stretch.Goals as goal
 
 pub returns-clause-puts : goal.returns-clause-puts
 returns-clause-puts c = grind (arith, stretch_put)
-
-pub returns-then-is_err-clause-stops : goal.returns-then-is_err-clause-stops
-returns-then-is_err-clause-stops c = grind arith

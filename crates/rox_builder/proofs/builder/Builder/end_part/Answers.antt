@@ -15,8 +15,5 @@ returns-in_err-room-in-None-clause-value c = λ total s bs b sh h.
 pub returns-in_ok-room-in-None-clause-value : goal.returns-in_ok-room-in-None-clause-value
 returns-in_ok-room-in-None-clause-value c = λ total s bs b sh h. part_begins total s b c.args.self.now _ c.args.before c.args.start c.args.end bs sh h (λ same. c.if-len-before.false (let ok = c.args.self.now.joined.text.bytes.ok.0 in omega (arith, ok, c.len.ensures, same))) c.in-None.is c.in_ok-room-in-None.ensures.ok refl refl refl refl refl refl refl refl
 
-pub returns-in-Written-clause-value : goal.returns-in-Written-clause-value
-returns-in-Written-clause-value c = grind arith
-
 pub returns-in-Joined-clause-value : goal.returns-in-Joined-clause-value
 returns-in-Joined-clause-value c = λ total s bs b sh h. part_joins total s b c.args.self.now _ c.args.before c.args.start c.args.end bs sh h (λ same. c.if-len-before.false (let ok = c.args.self.now.joined.text.bytes.ok.0 in omega (arith, ok, c.len.ensures, same))) c.in-Joined.is refl refl refl refl refl refl refl refl

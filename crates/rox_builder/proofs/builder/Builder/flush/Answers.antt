@@ -10,6 +10,3 @@ returns-in-None c = record {
   count = omega (arith, ap waiting c.in-None.is);
   kept = record { opened = refl; tables = refl; limit = refl; openings_left = refl };
 }
-
-pub returns-in-Written : goal.returns-in-Written
-returns-in-Written c = grind arith

@@ -62,9 +62,8 @@ returns-in_err-room c = record {
   value = λ total at openings_left s t sh here is.
       let p = err_from_is_err_and c.from_residual-in_err-room.result c.from_residual-in_err-room.ensures.1 in
       let f = c.flush.new.self in
-      let st = c.in_ok-flush.ensures.ok total s.stack s.done sh in
       let next : State = record { at = at; done = Nil; stack = inside s.at t s.done s.stack; openings_left = openings_left } in
-      let n = settled_count total s.stack s.done f st in
+      let n = settled_count total s.stack s.done f (c.in_ok-flush.ensures.ok total s.stack s.done sh) in
       let m = open_count s.stack s.at t s.done in
       let e = c.in_err-room.ensures.err in
       let over = e.1 in

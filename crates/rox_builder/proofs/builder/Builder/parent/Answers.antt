@@ -14,5 +14,4 @@ last_row_is t (x ∷ y ∷ ys) o some is =
 pub returns-in-Some : goal.returns-in-Some
 returns-in-Some c =
     let h = c.in-Some.ensures.item in
-    let t = c.args.self.now.tables in
-    rw (sym c.deref.ensures.value) (last_row_is t c.deref.result.now c.in-Some.element.now h.3.0 (h.3.1 c.in-Some.element.now))
+    rw (sym c.deref.ensures.value) (last_row_is c.args.self.now.tables c.deref.result.now c.in-Some.element.now h.3.0 (h.3.1 c.in-Some.element.now))

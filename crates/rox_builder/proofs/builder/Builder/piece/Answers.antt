@@ -14,7 +14,7 @@ use Rattle.rox_rows.specs.declared.row.NodeKind.{NodeKind}
 use Rattle.rox_rows.specs.declared.row.NodeKind.TheVariants as kind
 use Rattle.rox_names.specs.TagScopes.{lists_in}
 use Rattle.rox_theory.proofs.Leaves.{fits_counted}
-use Rattle.rox_values.specs.Values.{IsItsSlice, piece_view}
+use Rattle.rox_values.specs.Values.{piece_view}
 use Rattle.rox_builder.specs.BuilderState.{names_in}
 use Rattle.rox_builder.specs.PendingText.{waiting}
 use Rattle.rox_builder.proofs.Showing.{piece_first, first_count, counted_err}
@@ -50,8 +50,7 @@ returns c = record {
       let w = ap waiting none in
       let len = count_nodes b.nodes in
       let is : c.text_in-text.result.now ≡ v = c.text_in-text.ensures ∙ ap (λ (bs : List ℕ). (piece_view c.args.piece bs).value) c.as_str.ensures.value in
-      let its : IsItsSlice c.slice.result c.text_in-text.result.now = rw is (c.slice.ensures.its (string_bytes b.buffers.scratch)) in
-      let bytes = c.in_ok-stored.ensures.bytes its ∙ is in
+      let bytes = c.in_ok-stored.ensures.bytes (rw is (c.slice.ensures.its (string_bytes b.buffers.scratch))) ∙ is in
       let borrowed = c.in_ok-stored.ensures.borrowed ∙ c.slice.ensures.borrowed (string_bytes b.buffers.scratch) in
       let k : NodeKind = kind.Text c.in_ok-stored.stored in
       let node : node (attribute_rows b.tables.attributes) (names_in b.tables) (lists_in b.tables) c.args.start c.args.end k ≡ node_in (scope_of s.stack) (Text c.args.start c.args.end v view.borrowed) = rw (bytes, borrowed) refl in

@@ -1,4 +1,4 @@
-use Rattle.std.proofs.Common.{not, ◌≡◌, ◌++◌, ◌∷◌, [], ◌-◌, refl, ap, ◌∙◌, arith, length, rules}
+use Rattle.std.proofs.Common.{not, ◌≡◌, ◌++◌, ◌∷◌, [], ◌-◌, refl, ap, ◌∙◌, arith, rules}
 use Rattle.std.proofs.lemmas.Grind.{common_steps}
 use Rattle.rox_grammar.specs.Failures.{name_view}
 use Rattle.rox_grammar.specs.Forest.{Nil}
@@ -21,9 +21,6 @@ use Rattle.rox_rows.specs.Rows.{node_rows}
 use Rattle.rox_rows.proofs.StoredNodes.{count_nodes}
 use Rattle.rox_builder.proofs.builder.Builder.put_open.Goals as goal
 
-pub row_below-opening-requires : goal.row_below-opening-requires
-row_below-opening-requires c = grind arith
-
 pub returns : goal.returns
 returns c = record {
   adds = record {
@@ -43,14 +40,13 @@ returns c = record {
         let x : OpenElement = record { row = c.len-row.result; scope = tag.element.scope; namespace = tag.element.namespace; prefixed = not c.is_empty.result; name_count = tag.name_end - tag.name_start; source = c.from_place-source.result } in
         let kept = narrow_kept c.args.text.now tag c.from_place-source.result.now c.requires.named c.requires.narrow c.from_place-source.ensures in
         let spelled : open_name x ≡ name_view tag.name = ap spelled_name kept.bytes ∙ c.requires.named.spells in
-        let place : c.len-row.result ≡ length (node_rows f.nodes) = omega (arith, c.len-row.ensures.nodes) in
         let view : opened (lists_in f.tables) x ≡ tag_row x.row s.at t (listed (scope_of s.stack) t.declarations) =
         tag_shown f.tables (scope_of s.stack) s.at tag t c.args.text.now x op c.requires.named kept (omega arith) refl in
         let rows : node_rows c.put.new.self ≡ (node_rows f.nodes) ++ row_open f.tables 0 f.opened.items s.at k ∷ [] =
         rw here (c.put.ensures.rows ∙ ap (λ (r : NodeData). (node_rows f.nodes) ++ record r { subtree_end = 0 } ∷ []) c.row_below-opening.ensures) in (
           next,
           fits_counted c.args.self.now.nodes_limit next (omega arith),
-          open_shows total s.stack s.done f _ s.at k t x st op.node.is op.node.within place view rows refl c.push_reserved.ensures.items refl,
+          open_shows total s.stack s.done f _ s.at k t x st op.node.is op.node.within (omega (arith, c.len-row.ensures.nodes)) view rows refl c.push_reserved.ensures.items refl,
         );
     kept = record { tables = c.settle.ensures.kept.tables; limit = c.settle.ensures.kept.limit; openings_left = c.settle.ensures.kept.openings_left };
     opened =

@@ -13,9 +13,6 @@ use Rattle.rox_rows.specs.Rows.{node_rows}
 use Rattle.rox_rows.proofs.StoredNodes.{count_nodes}
 use Rattle.rox_builder.proofs.builder.Builder.put_text.Goals as goal
 
-pub row-row-requires : goal.row-row-requires
-row-row-requires c = omega (arith, c.requires.ready.small)
-
 pub returns : goal.returns
 returns c = record {
   adds = record {

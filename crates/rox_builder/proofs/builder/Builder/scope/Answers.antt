@@ -47,8 +47,7 @@ pub returns-in-None : goal.returns-in-None
 returns-in-None c = record {
   value = λ fine end o done sh.
       let b = c.args.self.now in
-      let os = c.deref.result.now in
-      let e : b.opened.items ≡ [] = sym c.deref.ensures.value ∙ nothing_last os (sym c.in-None.ensures.value) in
+      let e : b.opened.items ≡ [] = sym c.deref.ensures.value ∙ nothing_last c.deref.result.now (sym c.in-None.ensures.value) in
       fine.empty.none ∙ no_scope b.tables o (sym (ap (opened_in b.tables) e) ∙ sh.open_rows);
   within = λ fine. fine.empty.there;
   once = λ fine. subst PrefixesOnce (sym fine.empty.none) tt;

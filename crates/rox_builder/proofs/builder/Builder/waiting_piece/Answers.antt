@@ -10,12 +10,6 @@ use Rattle.rox_theory.proofs.Leaves.{fits_counted}
 use Rattle.rox_rows.proofs.StoredNodes.{count_nodes}
 use Rattle.rox_builder.proofs.builder.Builder.waiting_piece.Goals as goal
 
-pub returns-then-is_text_open : goal.returns-then-is_text_open
-returns-then-is_text_open c = grind arith
-
-pub returns-then-len-self : goal.returns-then-len-self
-returns-then-len-self c = grind arith
-
 pub returns : goal.returns
 returns c =
     let none = c.is_text_open.ensures.no c.if-is_text_open.false in

@@ -13,5 +13,4 @@ returns-then-same_text c =
 pub returns : goal.returns
 returns c =
     let a = unresolved_view c.args.self.now in
-    let k = c.test_default_uri.ensures a (sym c.as_str-uri.ensures) refl in
-    let t : bytes_eq a.name.prefix (word_text Xmlns) ≡ false = sym c.same_text.ensures ∙ c.if-same_text.false in rw t k
+    let t : bytes_eq a.name.prefix (word_text Xmlns) ≡ false = sym c.same_text.ensures ∙ c.if-same_text.false in rw t (c.test_default_uri.ensures a (sym c.as_str-uri.ensures) refl)

@@ -1,5 +1,5 @@
-use Rattle.std.proofs.Common.{rules, arith}
-use Rattle.rox_rows.proofs.StoredNodes.{push_is, low_row, within-more, within-push, chain_grown}
+use Rattle.std.proofs.Common.{arith}
+use Rattle.rox_rows.proofs.StoredNodes.{push_is, within-more, within-push, chain_grown}
 use Rattle.rox_rows.proofs.node_table.NodeTable.push_low.Goals as goal
 
 pub invariant_of-self-2 : goal.invariant_of-self-2
@@ -14,12 +14,4 @@ invariant_of-self-2 c =
     }
 
 pub returns : goal.returns
-returns c =
-    let t = c.args.self.now in
-    let pis = c.store_kind.new.instructions.items in
-    record {
-      rows =
-          push_is t.instructions.items pis t.high.items t.rows.items _ _ c.args.row t.short c.push_reserved.ensures.items
-          (c.store_kind.ensures.same t.high.items t.rows.items t.within) (low_row pis c.args.row c.in_ok-kind.kind c.in_ok-kind.ensures.stored.value);
-      len = search rules;
-    }
+returns c = grind (arith, push_is)

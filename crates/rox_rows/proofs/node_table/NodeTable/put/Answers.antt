@@ -1,5 +1,5 @@
-use Rattle.std.proofs.Common.{rules, refl, arith}
-use Rattle.rox_rows.proofs.StoredNodes.{push_is, low_row, within-push, chain_grown}
+use Rattle.std.proofs.Common.{arith}
+use Rattle.rox_rows.proofs.StoredNodes.{push_is, within-push, chain_grown}
 use Rattle.rox_rows.proofs.node_table.NodeTable.put.Goals as goal
 
 pub invariant_of-self : goal.invariant_of-self
@@ -14,12 +14,4 @@ invariant_of-self c =
     }
 
 pub returns : goal.returns
-returns c =
-    let t = c.args.self.now in
-    let pis = t.instructions.items in
-    record {
-      rows =
-          push_is pis pis t.high.items t.rows.items _ _ c.args.row t.short c.push_reserved.ensures.items refl (low_row pis c.args.row c.small_kind-kind.result (c.small_kind-kind.ensures pis).value);
-      len = search rules;
-      capacity = search rules;
-    }
+returns c = grind (arith, push_is)

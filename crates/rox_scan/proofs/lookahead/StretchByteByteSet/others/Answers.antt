@@ -12,6 +12,5 @@ pub returns : goal.returns
 unfolding agree_below is_stretch_byte
 returns c =
     let v = c.args.block in
-    let long = c.fits-block.0 in
-    masked _ (λ b. not (is_stretch_byte b)) v _ (omega (arith, long)) c.fits-block.1
+    masked _ (λ b. not (is_stretch_byte b)) v _ (omega (arith, c.fits-block.0)) c.fits-block.1
     (zip2_of_maps equals (at_low STRETCH_ENDS) (λ x. x) v c.by_low.ensures (map_same v)) refl

@@ -42,12 +42,11 @@ returns c = λ lists above h around s.
     let own = subst (λ n. IsBound namespaces (bound_place x) (entries namespaces (reverse (slice_range listed c.args.own.from n)) ++ filter (λ d. not (c.args.own.xml && is_xml d.prefix)) above)) all (l.invariant.bound above around) in
     let bound = bound_others namespaces _ above c.args.own.xml (bound_place x) own in
     let here : IsBound namespaces (bound_place x) (scope_at lists c.args.scope) = subst (IsBound namespaces (bound_place x)) (sym s.made) bound in
-    let kept = l.invariant.keeps namespaces lists h in
     let frame : ScopeFrame = record { scope = c.args.scope; count = c.len-count.result } in
     let k = x.replaced.ok.0 in
     let count : c.len-count.result ≡ length x.replaced.items = omega arith in
     let low : 0 ≤ length x.replaced.items = omega arith in (
       keeps_by namespaces lists _ x.replaced.items (x.layers.items ++ frame ∷ []) refl c.in_ok-push.ensures.items
-          (stacked_push namespaces lists x.replaced.items (bound_place x) 0 x.layers.items frame count low s.within here kept.stacked),
+          (stacked_push namespaces lists x.replaced.items (bound_place x) 0 x.layers.items frame count low s.within here (l.invariant.keeps namespaces lists h).stacked),
       here,
     )

@@ -23,9 +23,8 @@ returns-then-layer-len c = record {
       let l = c.in-Some.layer.now in
       let ls = take (length os - 1) os in
       let split : x.layers.items ≡ ls ++ l ∷ [] = sym c.deref.ensures.value ∙ last_split os l k.3.0 (k.3.1 l) in
-      let count : l.count ≡ length x.replaced.items = omega arith in
       subst (λ (s : ℕ). IsBound namespaces (bound_place x) (scope_at lists s)) (eqb-true _ _ same)
-      (stacked_last namespaces lists x.replaced.items (bound_place x) 0 ls l count (subst (Stacked namespaces lists x.replaced.items (bound_place x) 0) split h.stacked));
+      (stacked_last namespaces lists x.replaced.items (bound_place x) 0 ls l (omega arith) (subst (Stacked namespaces lists x.replaced.items (bound_place x) 0) split h.stacked));
 }
 
 pub returns-else-layer-len : goal.returns-else-layer-len
@@ -39,7 +38,6 @@ returns-else-layer-len c = record {
       let split : x.layers.items ≡ take (length os - 1) os ++ l ∷ [] = sym c.deref.ensures.value ∙ last_split os l k.3.0 (k.3.1 l) in
       let n = x.replaced.ok.0 in
       let other : l.count ≢ length x.replaced.items = omega arith in
-      let not_len : l.count ≢ c.len.result = omega arith in
-      ne_eqb l.count c.len.result not_len
+      ne_eqb l.count c.len.result (omega arith)
       ∙ sym (ap (λ ls. is_innermost ls (length x.replaced.items) c.args.scope) split ∙ innermost_not (take (length os - 1) os) l (length x.replaced.items) c.args.scope other);
 }

@@ -12,7 +12,6 @@ returns c = record {
       let new = c.set.new.self in
       let r : ShadowedBinding = record { prefix = c.args.prefix; before = c.get-before.result } in
       let entries : new.replaced.items ≡ old.replaced.items ++ r ∷ [] = ap (λ v. v.items) c.in_ok-set.ensures.replaced ∙ c.in_ok-push.ensures.items in
-      let layers : new.layers.items ≡ old.layers.items = ap (λ v. v.items) c.in_ok-set.ensures.layers in
-      keeps_by namespaces lists new (old.replaced.items ++ r ∷ []) old.layers.items entries layers
+      keeps_by namespaces lists new (old.replaced.items ++ r ∷ []) old.layers.items entries (ap (λ v. v.items) c.in_ok-set.ensures.layers)
       (stacked_put namespaces lists old.replaced.items r (bound_place old) (bound_place new) (bound_namespace c.args.place) 0 old.layers.items (ap bound_namespace c.get-before.ensures) (found_put old new _ c.args.place c.in_ok-set.ensures.present) h.stacked);
 }

@@ -12,8 +12,7 @@ returns c =
     let old = c.args.self.now.items.items in
     let new = c.add.new.self.items.items in
     let there = row_last {E = Failure} (Ok c.in_ok-add.field-0) old new (namespace_view row) c.in_ok-add.ensures.items c.in_ok-add.ensures.place in
-    let one = ap length c.in_ok-add.ensures.items in
     let before = length-map old namespace_view in
     let after = length-map new namespace_view in
     let both = length-append (map namespace_view old) (namespace_view row ∷ []) in
-    record { fault = search rules; placed = record { there = there; table = search rules; few = omega (arith, one, before, after, both) } }
+    record { fault = search rules; placed = record { there = there; table = search rules; few = omega (arith, (ap length c.in_ok-add.ensures.items), before, after, both) } }

@@ -29,10 +29,9 @@ pub returns-then-contains_key : goal.returns-then-contains_key
 returns-then-contains_key c = λ es h. record {
   texts = λ q.
       let name = c.args.name.now in
-      let e : Entity = record { name = name; text = replacement_view c.args.text } in
       let o = get_by (named_cmp name) c.args.self.now.texts in
       let some : is_some o ≡ true = subst (λ (k : ℕ). is_some (get_by (λ y. ordering_then (nat_cmp k y.0) (slice_cmp nat_cmp name y.1.now)) c.args.self.now.texts) ≡ c.contains_key.result) c.code.ensures (sym c.contains_key.ensures) ∙ c.if-contains_key.true in
-      h.texts q ∙ sym (declared_again es e q (ap is_some (sym (h.texts name)) ∙ seen_some o ∙ some));
+      h.texts q ∙ sym (declared_again es (record { name = name; text = replacement_view c.args.text }) q (ap is_some (sym (h.texts name)) ∙ seen_some o ∙ some));
 }
 
 pub returns-in-Ok : goal.returns-in-Ok

@@ -1,4 +1,4 @@
-use Rattle.std.proofs.Common.{◌-◌, arith}
+use Rattle.std.proofs.Common.{arith}
 use Rattle.std.proofs.lemmas.List.{length-take-le}
 use Rattle.roxmltree.proofs.Ranges.{spots_last, spots_length}
 use Rattle.roxmltree.proofs.Rows.{row_count}

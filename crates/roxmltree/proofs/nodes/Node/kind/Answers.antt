@@ -5,12 +5,10 @@ use Rattle.roxmltree.proofs.nodes.Node.kind.Goals as goal
 pub returns-clause-item : goal.returns-clause-item
 returns-clause-item c =
     let n = c.args.self.now in
-    let t = n.tables.now in
     let x = row_data n in
-    rw c.kind.ensures (stripped_again x.start x.end x.kind _ (row_item t n.document.now.tree _ x n.placed.holds n.in_tree (row_here n)))
+    rw c.kind.ensures (stripped_again x.start x.end x.kind _ (row_item n.tables.now n.document.now.tree _ x n.placed.holds n.in_tree (row_here n)))
 
 pub returns-clause-content : goal.returns-clause-content
 returns-clause-content c =
     let n = c.args.self.now in
-    let t = n.tables.now in
-    rw c.kind.ensures (row_content t n.document.now.tree _ (row_data n) n.placed.holds n.in_tree (row_here n))
+    rw c.kind.ensures (row_content n.tables.now n.document.now.tree _ (row_data n) n.placed.holds n.in_tree (row_here n))

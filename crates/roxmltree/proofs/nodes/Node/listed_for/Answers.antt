@@ -1,8 +1,7 @@
-use Rattle.std.proofs.Common.{◌≡◌, length, ap, sym, ◌∙◌}
+use Rattle.std.proofs.Common.{◌≡◌, length, ap, sym, ◌∙◌, List}
 use Rattle.std.proofs.lemmas.Bool.{eqb-true}
 use Rattle.rox_grammar.specs.Tree.{uri_of}
 use Rattle.rox_grammar.specs.Written.{NamespaceDecl}
-use Rattle.std.proofs.Common.{List}
 use Rattle.rox_scopes.specs.Scopes.{prefix_view}
 use Rattle.roxmltree.proofs.Parts.{row_listed, row_no_listed, row_lists_nothing, element_within}
 use Rattle.rox_rows.specs.StoredNodes.{kind_of}

@@ -4,6 +4,3 @@ use Rattle.roxmltree.proofs.nodes.Node.of.Goals as goal
 
 pub index-requires : goal.index-requires
 index-requires c = grind (arith, in_table)
-
-pub invariant_of-result : goal.invariant_of-result
-invariant_of-result c = grind arith

@@ -1,4 +1,4 @@
-use Rattle.std.proofs.Common.{ap, arith, sym, ◌∙◌}
+use Rattle.std.proofs.Common.{ap, sym, ◌∙◌}
 use Rattle.roxmltree.proofs.Parts.{row_attributes, row_no_attributes, element_within}
 use Rattle.rox_rows.specs.StoredNodes.{kind_of}
 use Rattle.rox_rows.proofs.StoredNodes.{lent_element}
@@ -13,12 +13,6 @@ attributes_at-requires-in-Element c =
       within = (element_within n.tables.now n.document.now.tree _ _ _ n.placed.holds n.in_tree (row_here n) (sym c.kind.ensures ∙ ap kind_of c.in-Element.is)).1;
       each = n.placed.holds.sound.attributes;
     }
-
-pub attributes_at-requires : goal.attributes_at-requires
-attributes_at-requires c = grind arith
-
-pub attributes_at-requires-in_default : goal.attributes_at-requires-in_default
-attributes_at-requires-in_default c = grind arith
 
 pub returns-in-Element : goal.returns-in-Element
 returns-in-Element c =

@@ -1,7 +1,6 @@
-use Rattle.std.proofs.Common.{◌≡◌, length, ap, sym, ◌∙◌}
+use Rattle.std.proofs.Common.{◌≡◌, length, ap, sym, ◌∙◌, List}
 use Rattle.std.proofs.lemmas.Bool.{eqb-true}
 use Rattle.rox_grammar.specs.Written.{NamespaceDecl}
-use Rattle.std.proofs.Common.{List}
 use Rattle.rox_lists.specs.ExpandedNames.{first_prefix}
 use Rattle.roxmltree.proofs.Parts.{row_listed, row_no_listed, row_lists_nothing, element_within}
 use Rattle.rox_rows.specs.StoredNodes.{kind_of}

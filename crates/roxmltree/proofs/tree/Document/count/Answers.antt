@@ -4,6 +4,3 @@ use Rattle.roxmltree.proofs.tree.Document.count.Goals as goal
 
 pub returns-clause-value : goal.returns-clause-value
 returns-clause-value c = grind (arith, row_count)
-
-pub returns-clause-few : goal.returns-clause-few
-returns-clause-few c = omega (arith, c.len.ensures.nodes, c.self.invariant.holds.few)

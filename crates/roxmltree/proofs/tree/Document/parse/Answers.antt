@@ -16,9 +16,6 @@ use Rattle.roxmltree.proofs.tree.Document.parse.Goals as goal
 pub returns-clause-is_parse : goal.returns-clause-is_parse
 returns-clause-is_parse c = grind (arith, permitted_tree)
 
-pub returns-clause-dtd : goal.returns-clause-dtd
-returns-clause-dtd c = grind arith
-
 pub returns-clause-first : goal.returns-clause-first
 returns-clause-first c = grind (arith, first_plain)
 

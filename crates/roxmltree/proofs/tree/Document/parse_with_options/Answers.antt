@@ -1,7 +1,7 @@
 use Rattle.std.proofs.Common.{true, ◌≡◌, ◌++◌, ℕ, Bool, List, arith}
 use Rattle.std.specs.Prelude.{Err, String, string_bytes}
 use Rattle.std.specs.declared.alloc.Global.{Global}
-use Rattle.std.proofs.lemmas.Result.{IfOk-weaker, IfErr-weaker}
+use Rattle.std.proofs.lemmas.Result.{IfErr-weaker}
 use Rattle.rox_grammar.specs.Forest.{Forest}
 use Rattle.rox_grammar.specs.Tree as grammar
 use Rattle.rox_grammar.specs.Doctype.{Request, Asked}
@@ -11,7 +11,6 @@ use Rattle.rox_error.specs.FaultErrors.{position_at}
 use Rattle.rox_error.specs.declared.position.TextPos.{TextPos}
 use Rattle.rox_error.specs.declared.error.Error.{Error}
 use Rattle.rox_error.specs.declared.error.Error.TheVariants as error
-use Rattle.roxmltree.specs.DocumentView.{DocumentView}
 use Rattle.roxmltree.specs.TextErrors.{IsTextError}
 use Rattle.roxmltree.proofs.Parsed.{read_tree}
 use Rattle.roxmltree.proofs.Telling.{first_asked, first_none, first_resolver, first_refusal}
@@ -19,12 +18,6 @@ use Rattle.roxmltree.proofs.tree.Document.parse_with_options.Goals as goal
 
 pub returns-clause-is_parse : goal.returns-clause-is_parse
 returns-clause-is_parse g c = grind (arith, read_tree)
-
-pub returns-clause-text : goal.returns-clause-text
-returns-clause-text g c = IfOk-weaker c.read.result _ (λ (d : DocumentView). d.text ≡ c.args.text.now) (λ (d : DocumentView) r. r.text_is) c.read.ensures.document
-
-pub returns-clause-key : goal.returns-clause-key
-returns-clause-key g c = IfOk-weaker c.read.result _ (λ (d : DocumentView). d.key ≡ c.args.opt.document_key) (λ (d : DocumentView) r. r.key_is) c.read.ensures.document
 
 pub returns-clause-no_parse : goal.returns-clause-no_parse
 returns-clause-no_parse g c =
