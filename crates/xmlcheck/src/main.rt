@@ -93,8 +93,8 @@ fn check_bytes(
         Err(error) => error,
     };
     if let Some(encoding) = marked_encoding(bytes) {
-        return eprintln!(rt; "{file}: {encoding} is not read (iconv -f {encoding} -t UTF-8)")
-            .map(|_| 2);
+        eprintln!(rt; "{file}: {encoding} is not read (iconv -f {encoding} -t UTF-8)")?;
+        return Ok(2);
     }
     let offset = error.valid_up_to();
     eprintln!(rt; "{file}: not UTF-8 at offset {offset}").map(|_| 2)
