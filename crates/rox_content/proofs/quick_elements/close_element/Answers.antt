@@ -20,6 +20,9 @@ use Rattle.rox_content.proofs.quick_elements.close_element.Goals as goal
 behind_rest : (src bytes : List ℕ) (i n : ℕ) → bytes ≡ src → slice_index (slice_range bytes i (length bytes)) n ≡ 62 → slice_index src (i + n) ≡ 62
 behind_rest src bytes i n is closed = grind (arith, take_rest, get_or-drop)
 
+pub after_byte-end-requires : goal.after_byte-end-requires
+after_byte-end-requires c = grind (arith, behind_rest)
+
 pub returns : goal.returns
 returns c = record {
   value = λ _ context end s around h.
@@ -63,3 +66,6 @@ returns c = record {
             (subst (λ (t : ElementTables). IsConsistent t (take n b.opened.items)) (sym c.put_close.ensures.closes.kept.tables) taken);
       };
 }
+
+pub put_close-requires : goal.put_close-requires
+put_close-requires c = grind arith

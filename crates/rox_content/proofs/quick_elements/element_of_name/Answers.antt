@@ -5,6 +5,7 @@ use Rattle.rox_reading.specs.Machine.{opened_by, cut_off_fault}
 use Rattle.rox_reading.specs.Refusals.{lifted}
 use Rattle.rox_starts.specs.ElementRow.{Tagged}
 use Rattle.rox_builder.specs.BuilderState.{opened_in}
+use Rattle.rox_content.proofs.Closing.{below_last}
 use Rattle.rox_builder.proofs.Showing.{innermost_row}
 use Rattle.rox_builder.proofs.Stepping.{top_scope}
 use Rattle.rox_grammar.specs.declared.fault.Fault.TheVariants as fault
@@ -14,6 +15,9 @@ use Rattle.rox_names.proofs.SpelledNames.{tag_is_named}
 use Rattle.rox_tags.proofs.WholeTags.{plain_moves}
 use Rattle.rox_constructs.proofs.Opening.{is_opening, fine_by, fine_more, namespace_by, tag_is, open_stepped}
 use Rattle.rox_content.proofs.quick_elements.element_of_name.Goals as goal
+
+pub start_tag_of_name-requires : goal.start_tag_of_name-requires
+start_tag_of_name-requires c = grind (arith, below_last)
 
 pub returns : goal.returns
 returns c = record {

@@ -1,22 +1,31 @@
-use Rattle.std.proofs.Common.{◌-◌, take, arith, refl}
+use Rattle.std.proofs.Common.{◌-◌, take, arith, refl, rules}
+use Rattle.std.proofs.lemmas.Grind.{common_steps}
 use Rattle.rox_builder.proofs.Showing.{split_at}
-use Rattle.rox_content.proofs.PlainElements.{IsTried, tried_may_put, tried_reads, tried_back, tried_again, part_near}
-use Rattle.rox_sections.proofs.PlainReads.{reads_kept}
+use Rattle.rox_content.proofs.PlainElements.{may_open_at, IsTried, tried_may_put, tried_reads, tried_back, tried_again, part_near}
+use Rattle.rox_sections.proofs.PlainReads.{reads_kept, reads_not}
 use Rattle.rox_content.proofs.quick_elements.element_without_prefix.Goals as goal
 use Rattle.rox_content.proofs.quick_elements.element_without_prefix.Goals.{After-start_tag_without_prefix}
 
 tried : (c : After-start_tag_without_prefix) → IsTried c.args.text.now c.args.start c.args.near c.args.builder.now c.index-parent.result.now c.start_tag_without_prefix.new.elements c.len-from.result c.start_tag_without_prefix.result
 tried c =
     let os = c.args.builder.now.opened.items in
+    let o = c.index-parent.result.now in
     record {
       utf8 = c.utf8.text;
       may = record { here = c.requires.here; start = c.requires.start; part = part_near c.args.text.now c.args.start c.args.near c.utf8.text c.requires.here c.requires.near; room = c.requires.room };
       room = c.has_room_to_open.ensures c.if-not-has_room_to_open.false;
       outer = take (c.len-depth.result - 1) os;
-      innermost = split_at os c.len-depth.result c.index-parent.result.now (omega arith) (omega arith) c.index-parent.ensures;
+      innermost = split_at os c.len-depth.result o (omega arith) (omega arith) c.index-parent.ensures;
       held_all = c.len-from.ensures;
       tag = c.start_tag_without_prefix.ensures;
     }
+
+pub start_tag_without_prefix-requires : goal.start_tag_without_prefix-requires
+start_tag_without_prefix-requires c = record {
+  here = may_open_at c.args.text.now c.args.start c.len-depth.result c.args.builder.now c.index-parent.result.now c.requires.here c.requires.room (omega arith) (omega arith) c.index-parent.ensures;
+  near = c.requires.near;
+  bare = first_of (search rules, grind (arith, common_steps));
+}
 
 pub element_in_scope-requires : goal.element_in_scope-requires
 element_in_scope-requires c = grind (arith, part_near)
@@ -58,3 +67,21 @@ returns-then-index c = record {
   moves = c.element_in_scope.ensures.moves;
   fine = c.element_in_scope.ensures.fine;
 }
+
+pub returns-then-not-has_room_to_open : goal.returns-then-not-has_room_to_open
+returns-then-not-has_room_to_open c = reads_not _ _ _ _ _ _ (omega arith) (record { nodes = refl; opened = refl; pending = refl; joined = refl; limit = refl; openings_left = refl; others = refl; attributes = refl }) c.requires.room.fine
+
+pub returns-then-depth-eq0 : goal.returns-then-depth-eq0
+returns-then-depth-eq0 c = reads_not _ _ _ _ _ _ (omega arith) (record { nodes = refl; opened = refl; pending = refl; joined = refl; limit = refl; openings_left = refl; others = refl; attributes = refl }) c.requires.room.fine
+
+pub invariant_of-builder : goal.invariant_of-builder
+invariant_of-builder c = record { few = c.args.builder.now.few; counted = c.args.builder.now.counted; shallow = c.args.builder.now.shallow }
+
+pub invariant_of-builder-2 : goal.invariant_of-builder-2
+invariant_of-builder-2 c = record { few = c.args.builder.now.few; counted = c.args.builder.now.counted; shallow = c.args.builder.now.shallow }
+
+pub invariant_of-builder-in_default : goal.invariant_of-builder-in_default
+invariant_of-builder-in_default c = record { few = c.args.builder.now.few; counted = c.args.builder.now.counted; shallow = c.args.builder.now.shallow }
+
+pub invariant_of-builder-then-index : goal.invariant_of-builder-then-index
+invariant_of-builder-then-index c = record { few = c.args.builder.now.few; counted = c.args.builder.now.counted; shallow = c.args.builder.now.shallow }

@@ -1,10 +1,20 @@
-use Rattle.std.proofs.Common.{◌≡◌, ◌+◌, false, bytes_eq, refl, sym, ◌∙◌, Ok}
+use Rattle.std.proofs.Common.{◌≡◌, ◌+◌, false, bytes_eq, refl, sym, ◌∙◌, arith, Ok, length-append}
 use Rattle.rox_grammar.specs.declared.fault.Word.TheVariants.{Xmlns}
 use Rattle.rox_grammar.specs.FixedTexts.{word_text}
 use Rattle.rox_grammar.specs.Failures.{name_view}
 use Rattle.rox_reading.specs.Lexical.{qname_at}
+use Rattle.rox_tags.proofs.TagAttributes.{has_scope}
 use Rattle.rox_content.proofs.RootTags.{root_tagged}
 use Rattle.rox_content.proofs.quick_root.root_tag.Goals as goal
+
+pub tag_attributes-requires : goal.tag_attributes-requires
+tag_attributes-requires c = record { cut = c.in_ok-name.ensures.cut; short = c.requires.short; begins = (c.requires.begins, refl) }
+
+pub namespace_in_scope-requires : goal.namespace_in_scope-requires
+namespace_in_scope-requires c = grind (arith, has_scope)
+
+pub element_of-element-requires : goal.element_of-element-requires
+element_of-element-requires c = grind (arith, length-append)
 
 pub returns : goal.returns
 returns c =
