@@ -22,10 +22,10 @@ pub fn run(rt: &HostRuntime, file: &str) -> Result<()> {
 fn print_book(rt: &HostRuntime, file: &str, text: &str, chapters: &[Chapter]) -> Result<()> {
     match parse_book(rt.alloc(), text, chapters) {
         Ok(document) => print_contents(rt.alloc(), &document, &mut rt.stdout()),
-        Err(error) => match faulty_chapter(rt.alloc(), text, chapters) {
-            Some(name) => bail!("{name}: {error}"),
-            None => bail!("{file}: {error}"),
-        },
+        Err(error) => {
+            let name = faulty_chapter(rt.alloc(), text, chapters).unwrap_or(file);
+            bail!("{name}: {error}")
+        }
     }
 }
 

@@ -61,13 +61,17 @@ fn text_of<'c>(chapters: &'c [Chapter], name: &str) -> &'c str {
 /// Returns the name of the chapter that a refused book is refused for: the first with which it is refused if all after it are
 /// empty. Returns `None` if it is refused with all of them empty.
 pub fn faulty_chapter<'c>(alloc: Global, book: &str, chapters: &'c [Chapter]) -> Option<&'c str> {
-    if parse_book(alloc, book, &[]).is_err() {
+    if is_refused(alloc, book, &[]) {
         return None;
     }
     for (at, chapter) in chapters.iter().enumerate() {
-        if parse_book(alloc, book, &chapters[..=at]).is_err() {
+        if is_refused(alloc, book, &chapters[..=at]) {
             return Some(chapter.name.as_str());
         }
     }
     None
+}
+
+fn is_refused(alloc: Global, book: &str, chapters: &[Chapter]) -> bool {
+    parse_book(alloc, book, chapters).is_err()
 }

@@ -97,12 +97,19 @@ fn with_properties(
 
 /// Returns the text with each `${name}` replaced by the value of the property. One that is unknown stays as it is.
 fn replaced_once(project: &Node<'_, '_>, alloc: Global, text: &str) -> Result<String, AllocError> {
-    let mut parts = text.split("${");
-    let mut value = String::from_str(alloc, parts.next().unwrap_or(""))?;
-    for part in parts {
-        push_property(project, &mut value, part)?;
-    }
+    let mut value = String::new(alloc);
+    push_replaced(project, &mut value, text)?;
     Ok(value)
+}
+
+/// Appends the text with each `${name}` replaced.
+fn push_replaced(project: &Node<'_, '_>, value: &mut String, text: &str) -> Result<(), AllocError> {
+    let mut parts = text.split("${");
+    value.push_str(parts.next().unwrap_or(""))?;
+    for part in parts {
+        push_property(project, value, part)?;
+    }
+    Ok(())
 }
 
 /// Appends the value of the property `name`, and what comes after, of a part `name}..`.

@@ -51,7 +51,12 @@ fn print_error<W: Write>(error: &Error, text: &str, out: &mut W) -> io::Result<(
         .unwrap_or("");
     writeln!(out, "{place}: {message}")?;
     writeln!(out, "{line}")?;
-    for _ in 1..place.col {
+    print_caret(place.col, out)
+}
+
+/// Prints a caret below the character in this column.
+fn print_caret<W: Write>(column: u32, out: &mut W) -> io::Result<()> {
+    for _ in 1..column {
         write!(out, " ")?;
     }
     writeln!(out, "^")

@@ -13,7 +13,8 @@ pub fn write_axes<W: Write>(node: &Node<'_, '_>, out: &mut Output<'_, W>) {
     write_elements(node, out);
     write_truth(" sib=", node.has_siblings(), out);
     write_truth(" kids=", node.has_children(), out);
-    write_ways(node, out);
+    write_axes_around(node, out);
+    write_axes_below(node, out);
     out.text(" desc=");
     write_number(node.descendants().len() as u64, out);
     out.text("\n");
@@ -27,10 +28,13 @@ fn write_elements<W: Write>(node: &Node<'_, '_>, out: &mut Output<'_, W>) {
     write_link(&node.last_element_child(), " lec=", out);
 }
 
-fn write_ways<W: Write>(node: &Node<'_, '_>, out: &mut Output<'_, W>) {
+fn write_axes_around<W: Write>(node: &Node<'_, '_>, out: &mut Output<'_, W>) {
     write_ids(" anc=", node.ancestors(), out);
     write_ids(" prevs=", node.prev_siblings(), out);
     write_ids(" nexts=", node.next_siblings(), out);
+}
+
+fn write_axes_below<W: Write>(node: &Node<'_, '_>, out: &mut Output<'_, W>) {
     write_ids(" firsts=", node.first_children(), out);
     write_ids(" lasts=", node.last_children(), out);
     write_ids(" children=", node.children(), out);
