@@ -120,7 +120,7 @@ pub(crate) fn whole_place(low: u32, high: u32) -> usize
     high as usize * FIRST_HIGH + low as usize
 }
 
-/// Returns the lower half of a offset.
+/// Returns the lower half of an offset.
 #[inline(always)]
 pub(crate) fn low_half(place: usize) -> u32
     ensures { place ≡ (place / 2 ^ 32) * 2 ^ 32 + result }
@@ -128,7 +128,7 @@ pub(crate) fn low_half(place: usize) -> u32
     (place % FIRST_HIGH) as u32
 }
 
-/// Returns the upper half of a offset.
+/// Returns the upper half of an offset.
 #[inline(always)]
 pub(crate) fn high_half(place: usize) -> u32
     ensures { result ≡ place / 2 ^ 32 }
