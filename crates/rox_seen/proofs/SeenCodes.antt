@@ -132,16 +132,7 @@ last_four xs i x y z w count first second third fourth =
     let rest = last_three xs (i + 1) y z w (omega (arith, count)) second (rw two at third) (rw three at fourth) in
     drop_more xs i x (omega (arith, count)) ∙ ap (λ v. v ∷ drop (i + 1) xs) (sym first) ∙ ap (λ vs. x ∷ vs) rest
 
--- three attributes of the tag have codes that were seen
-pub three_seen : (seen : SeenNames) (t : AttributeTable) (x y z : StoredAttribute) → length t.items.items ≡ seen.from + 3
-    → x ≡ get_or t.items.items seen.from x → y ≡ get_or t.items.items (seen.from + 1) y → z ≡ get_or t.items.items (seen.from + 1 + 1) z
-    → HasNameOf seen.codes (data_of x) → HasNameOf seen.codes (data_of y) → HasNameOf seen.codes (data_of z) → HaveCodes seen (attribute_rows t)
-three_seen seen t x y z count first second third a b c =
-    let items = last_three t.items.items seen.from x y z count first second third in
-    let row = row_in t.explicit.items in
-    subst (AllByRecursion (λ (a : AttributeRow). HasNameOf seen.codes a.0)) (sym (drop-map row seen.from t.items.items ∙ ap (map row) items)) (a, (b, (c, tt)))
-
--- four have
+-- four attributes of the tag have codes that were seen
 pub four_seen : (seen : SeenNames) (t : AttributeTable) (x y z w : StoredAttribute) → length t.items.items ≡ seen.from + 4
     → x ≡ get_or t.items.items seen.from x → y ≡ get_or t.items.items (seen.from + 1) y → z ≡ get_or t.items.items (seen.from + 2) z → w ≡ get_or t.items.items (seen.from + 3) w
     → HasNameOf seen.codes (data_of x) → HasNameOf seen.codes (data_of y) → HasNameOf seen.codes (data_of z) → HasNameOf seen.codes (data_of w) → HaveCodes seen (attribute_rows t)

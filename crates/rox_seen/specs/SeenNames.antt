@@ -75,11 +75,6 @@ pub record PutsCode (old new : SeenNames) (local : List ℕ) (result : Bool) : T
   pub only : (code : ℕ) → HasCode new.codes code → (code ≡ name_code local → ⊥) → HasCode old.codes code
   pub others : new ≡ record old { codes = new.codes }
 
--- The attributes of the tag are the last of these rows, at most four.
-pub record AreFirst (seen : SeenNames) (rows : List AttributeRow) : Type 0 where
-  pub from : seen.from ≤ length rows
-  pub few : length rows ≤ seen.from + 4
-
 -- The result is false only if no attribute of the tag has the local name `local`. If a row of that name is appended, `AreSeen`
 -- holds again. Nothing but codes changes.
 pub record TellsSeen (old new : SeenNames) (rows : List AttributeRow) (local : List ℕ) (result : Bool) : Type 0 where

@@ -1,8 +1,8 @@
 //! A filter for the local names of a tag's attributes: it spares most of them a comparison with those before.
 
-ghost use Rattle.std.specs.Prelude.{◌≡◌, ◌+◌, ◌-◌, ◌^◌, ◌<◌, min, nat_lt, length, List, replicate, None, bytes_eq, false};
+ghost use Rattle.std.specs.Prelude.{◌≡◌, ◌+◌, ◌-◌, ◌^◌, ◌<◌, ◌≤◌, min, nat_lt, length, List, replicate, None, bytes_eq, false};
 ghost use Rattle.rox_rows.specs.Rows.{attribute_rows};
-ghost use Rattle.rox_seen.specs.SeenNames.{most_again, name_sum, AreFirst, AreSeen, IsNameCode, PutsCode, SeesAll, TellsSeen};
+ghost use Rattle.rox_seen.specs.SeenNames.{most_again, name_sum, AreSeen, IsNameCode, PutsCode, SeesAll, TellsSeen};
 
 use crate::recent_texts::Recent;
 use rox_compare::compare::{WORD, word_at};
@@ -128,39 +128,29 @@ impl SeenNames {
         (bits >> bit) & 1 == 1
     }
 
-    /// Records the names of the attributes of the tag, which are at most four, and no others.
+    /// Records the names of the attributes of the tag, which are four, and no others.
     #[cold]
     #[inline(never)]
     fn put_first(&mut self, attributes: &AttributeTable<'_>)
-        requires { AreFirst self.old (attribute_rows attributes.now) }
+        requires { self.old.from + 4 ≡ length (attribute_rows attributes.now) }
         ensures { SeesAll self.old self.new (attribute_rows attributes.now) }
     {
-        let count = attributes.items.len() - self.from;
         self.codes = [0; CODES / WIDTH];
-        if count == 0 {
-            return;
-        }
-        self.put(attributes.items[self.from].local);
-        if count == 1 {
-            return;
-        }
-        self.put(attributes.items[self.from + 1].local);
-        if count == 2 {
-            return;
-        }
-        self.put(attributes.items[self.from + 2].local);
-        if count == WITHOUT_CODES {
-            self.put(attributes.items[self.from + 3].local);
-        }
+        let from = self.from;
+        self.put(attributes.items[from].local);
+        self.put(attributes.items[from + 1].local);
+        self.put(attributes.items[from + 2].local);
+        self.put(attributes.items[from + 3].local);
     }
 
     /// Like `put_first`, but does nothing if the tag has more than four attributes: their names are recorded already.
     #[inline(always)]
-    pub fn put_few(&mut self, attributes: &AttributeTable<'_>)
-        requires { AreSeen self.old (attribute_rows attributes.now) }
+    fn put_few(&mut self, attributes: &AttributeTable<'_>)
+        requires seen { AreSeen self.old (attribute_rows attributes.now) }
+        requires four { self.old.from + 4 ≤ length (attribute_rows attributes.now) }
         ensures { SeesAll self.old self.new (attribute_rows attributes.now) }
     {
-        if attributes.items.len() - self.from <= WITHOUT_CODES {
+        if attributes.items.len() - self.from == WITHOUT_CODES {
             self.put_first(attributes);
         }
     }
