@@ -1,10 +1,8 @@
 -- Where a value ends that has a reference, or white space which is no space.
-use Rattle.std.proofs.Common.{◌≡◌, ℕ, ◌+◌, ◌-◌, ◌<◌, ◌≤◌, ◌==◌, ◌||◌, Bool, true, false, not, List, Ok, length, get_or, slice_index, slice_range, drop, take, inl, inr, refl, sym, ap, ◌∙◌, arith, get_or-drop, length-drop}
+use Rattle.std.proofs.Common.{◌≡◌, ℕ, ◌+◌, ◌-◌, ◌<◌, ◌≤◌, ◌==◌, ◌||◌, Bool, true, false, not, List, Ok, length, get_or, slice_index, slice_range, drop, take, inl, inr, refl, sym, ap, ◌∙◌, arith, get_or-drop, length-drop, IsUtf8, IsCharBoundary, get_or-take, length-take-le}
 use Rattle.std.specs.List.{list_any}
-use Rattle.std.specs.Str.{IsUtf8, IsCharBoundary}
 use Rattle.std.proofs.lemmas.Bool.{cases_lt}
 use Rattle.std.proofs.lemmas.Bool.Decides.{nat_tests}
-use Rattle.std.proofs.lemmas.List.{get_or-take, length-take-le}
 use Rattle.std.proofs.lemmas.List.Folds.{list_any_at}
 use Rattle.rox_reading.specs.Values.{ValueInclusion, is_special, value_at, value_text}
 use Rattle.rox_grammar.specs.Content.{is_verbatim_value}

@@ -1,6 +1,5 @@
 -- The bytes of a value that has a reference, or white space other than spaces.
-use Rattle.std.specs.Prelude.{◌≡◌, ◌==◌, ◌≤◌, ◌<◌, ℕ, Bool, List, Option, Ok, IfSome, true, false, slice_index, slice_range}
-use Rattle.std.specs.Str.{IsCharBoundary}
+use Rattle.std.specs.Prelude.{◌≡◌, ◌==◌, ◌≤◌, ◌<◌, ℕ, Bool, List, Option, Ok, IfSome, true, false, slice_index, slice_range, IsCharBoundary}
 use Rattle.rox_grammar.specs.Entities.{Entity}
 use Rattle.rox_reading.specs.Markup.{raw_value_at}
 use Rattle.rox_reading.specs.Values.{ValueInclusion, is_special, value_at}

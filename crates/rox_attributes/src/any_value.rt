@@ -2,8 +2,7 @@
 //! values that do not depend on context are read (XML 1.0 sections 3.3.3, 4.1 and 4.6). A predefined entity gives its character
 //! whether or not it is declared too.
 
-ghost use Rattle.std.specs.Prelude.{◌≤◌, IfSome, true, length};
-ghost use Rattle.std.specs.String.{string_bytes};
+ghost use Rattle.std.specs.Prelude.{◌≤◌, IfSome, true, length, string_bytes};
 ghost use Rattle.rox_bytes.specs.ByteSets.{EndsSet, is_stretch_byte};
 ghost use Rattle.rox_storage.specs.Storage.{IsOwnText};
 ghost use Rattle.rox_scan.specs.Lookahead as longer;

@@ -1,6 +1,5 @@
 -- The loop over constructs of content gives what is read.
-use Rattle.std.proofs.Common.{◌≡◌, ℕ, zero, suc, ◌+◌, ◌-◌, ◌<◌, ◌≤◌, true, false, List, length, refl, sym, ◌∙◌, arith, Result, Ok, Err, lt-ltb, le-ltb}
-use Rattle.std.specs.Str.{IsUtf8}
+use Rattle.std.proofs.Common.{◌≡◌, ℕ, zero, suc, ◌+◌, ◌-◌, ◌<◌, ◌≤◌, true, false, List, length, refl, sym, ◌∙◌, arith, Result, Ok, Err, lt-ltb, le-ltb, IsUtf8}
 use Rattle.rox_grammar.specs.declared.fault.Fault.TheVariants as fault
 use Rattle.rox_reading.specs.Lexical.{◌>>=◌}
 use Rattle.rox_grammar.specs.State.{is_root}

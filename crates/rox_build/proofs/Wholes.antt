@@ -1,6 +1,5 @@
 -- A root element with what follows it, and a whole text, are read as their parts are.
-use Rattle.std.proofs.Common.{◌≡◌, ℕ, zero, suc, Bool, true, false, List, length, refl, sym, ap, subst, ◌∙◌, Result, Ok, slice_index, nat_lt, ◌==◌}
-use Rattle.std.proofs.lemmas.Bool.{ne_eqb, eq-eqb}
+use Rattle.std.proofs.Common.{◌≡◌, ℕ, zero, suc, Bool, true, false, List, length, refl, sym, ap, subst, ◌∙◌, Result, Ok, slice_index, nat_lt, ◌==◌, ne_eqb, eq-eqb}
 use Rattle.rox_reading.specs.Refusals.{lifted}
 use Rattle.rox_reading.specs.Lexical.{◌>>=◌}
 use Rattle.rox_grammar.specs.State.{Open, root, inside, is_root}

@@ -1,8 +1,6 @@
 //! Content: character data and replacement texts, one construct after another (XML 1.0 sections 2.4, 3.1, 4.3.2, 4.4.2).
 
-ghost use Rattle.std.specs.Prelude.{ℕ, List, length};
-ghost use Rattle.std.specs.Str.{IsCharBoundary};
-ghost use Rattle.std.specs.String.{string_bytes};
+ghost use Rattle.std.specs.Prelude.{ℕ, List, length, IsCharBoundary, string_bytes};
 ghost use Rattle.rox_reading.specs.State.{State};
 ghost use Rattle.rox_reading.specs.Machine as machine;
 ghost use Rattle.rox_grammar.specs.Entities.{Entity};

@@ -1,12 +1,10 @@
 -- Pieces of the main text that join a text that waits for its row.
-use Rattle.std.proofs.Common.{◌≡◌, ℕ, zero, suc, ◌<◌, ◌≤◌, ◌+◌, ◌-◌, Bool, true, false, List, [], ◌∷◌, ◌++◌, Option, None, Result, Ok, Err, length, slice_index, slice_range, refl, sym, ap, subst, ◌∙◌, arith, append-nil, cond, leb}
+use Rattle.std.proofs.Common.{◌≡◌, ℕ, zero, suc, ◌<◌, ◌≤◌, ◌+◌, ◌-◌, Bool, true, false, List, [], ◌∷◌, ◌++◌, Option, None, Result, Ok, Err, length, slice_index, slice_range, refl, sym, ap, subst, ◌∙◌, arith, append-nil, cond, leb, length-append, string_bytes}
 use Rattle.std.specs.Prelude.{vec_len}
-use Rattle.std.proofs.lemmas.List.{length-append}
 use Rattle.rox_grammar.specs.Failures.{Fails}
 use Rattle.rox_grammar.specs.declared.failure.Failure.TheVariants as failure
 use Rattle.rox_rows.specs.declared.node_table.NodeTable.{NodeTable}
 use Rattle.rox_builder.specs.declared.pending.Pending.{Pending}
-use Rattle.std.specs.String.{string_bytes}
 use Rattle.rox_grammar.specs.declared.fault.Fault.{Fault}
 use Rattle.rox_grammar.specs.Content.{is_verbatim}
 use Rattle.rox_grammar.specs.Entities.{Replacement, Entity}

@@ -1,10 +1,9 @@
 -- What each change of the builder does to the items that it shows.
-use Rattle.std.proofs.Common.{◌≡◌, ℕ, zero, suc, ◌+◌, ◌-◌, ◌<◌, Bool, false, List, [], ◌∷◌, ◌++◌, length, map, set, get_or, take, refl, sym, ap, subst, ◌∙◌, arith, Err, append_assoc}
+use Rattle.std.proofs.Common.{◌≡◌, ℕ, zero, suc, ◌+◌, ◌-◌, ◌<◌, Bool, false, List, [], ◌∷◌, ◌++◌, length, map, set, get_or, take, refl, sym, ap, subst, ◌∙◌, arith, Err, append_assoc, string_bytes, Bor}
 use Rattle.std.specs.List.{AllByRecursion}
 use Rattle.std.proofs.Math.ListN.{get_or-map}
 use Rattle.std.proofs.lemmas.Bool.{lt-leb}
 use Rattle.std.proofs.lemmas.List.{map-append, length-map, map-set, same_from_push, get_or_at, take_all, take_more}
-use Rattle.std.specs.String.{string_bytes}
 use Rattle.rox_grammar.specs.declared.fault.Fault.TheVariants as fault
 use Rattle.rox_grammar.specs.Forest.{Forest, Nil, Cons, join, size}
 use Rattle.rox_grammar.specs.Written.{Tag, Item, Element, Text, NamespaceDecl, merge, leaf}
@@ -26,7 +25,6 @@ use Rattle.rox_names.specs.declared.tables.ElementTables.{ElementTables}
 use Rattle.rox_builder.specs.declared.pending.Pending.{Pending}
 use Rattle.rox_builder.specs.declared.pending.JoinedText.{JoinedText}
 use Rattle.rox_values.specs.Values.{IsItsSlice}
-use Rattle.std.specs.Borrow.{Bor}
 use Rattle.std.specs.Prelude.{Option, None, is_some}
 use Rattle.rox_builder.specs.declared.pending.Pending.TheVariants as pending
 use Rattle.rox_names.specs.declared.open_element.OpenElement.{OpenElement}

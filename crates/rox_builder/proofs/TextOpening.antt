@@ -1,6 +1,5 @@
 -- A replacement text that is opened in content.
-use Rattle.std.proofs.Common.{◌≡◌, ℕ, zero, suc, ◌-◌, Bool, false, List, Result, Ok, Err, length, refl, sym, ap, ◌∙◌, arith}
-use Rattle.std.specs.Borrow.{Bor}
+use Rattle.std.proofs.Common.{◌≡◌, ℕ, zero, suc, ◌-◌, Bool, false, List, Result, Ok, Err, length, refl, sym, ap, ◌∙◌, arith, Bor}
 use Rattle.rox_grammar.specs.declared.fault.Fault.{Fault}
 use Rattle.rox_grammar.specs.Entities.{Replacement, Entity}
 use Rattle.rox_reading.specs.Lexical.{◌>>=◌}

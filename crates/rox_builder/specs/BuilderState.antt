@@ -1,6 +1,5 @@
 -- What the builder holds, compared with the state of reading.
-use Rattle.std.specs.Prelude.{◌≡◌, vec_len, vec_capacity, ℕ, ◌+◌, ◌-◌, nat_lt, ◌&&◌, ◌^◌, ◌<◌, ◌≤◌, Bool, true, false, List, [], ◌∷◌, ◌++◌, Option, is_some, Result, Ok, Err, length, map}
-use Rattle.std.specs.String.{string_bytes}
+use Rattle.std.specs.Prelude.{◌≡◌, vec_len, vec_capacity, ℕ, ◌+◌, ◌-◌, nat_lt, ◌&&◌, ◌^◌, ◌<◌, ◌≤◌, Bool, true, false, List, [], ◌∷◌, ◌++◌, Option, is_some, Result, Ok, Err, length, map, string_bytes}
 use Rattle.std.specs.List.{AllByRecursion}
 use Rattle.rox_grammar.specs.declared.fault.Fault.{Fault}
 use Rattle.rox_grammar.specs.Forest.{Forest, Nil, join, size}

@@ -1,6 +1,5 @@
 -- What is required where something is read: of the offset, of the builder, and of the room.
-use Rattle.std.specs.Prelude.{◌≡◌, ◌≢◌, ◌<◌, ◌+◌, ◌^◌, ℕ, true, List, length, slice_index, vec_len}
-use Rattle.std.specs.Str.{IsCharBoundary}
+use Rattle.std.specs.Prelude.{◌≡◌, ◌≢◌, ◌<◌, ◌+◌, ◌^◌, ℕ, true, List, length, slice_index, vec_len, IsCharBoundary}
 use Rattle.rox_grammar.specs.FixedTexts.{word_text}
 use Rattle.rox_grammar.specs.Search.{stands}
 use Rattle.rox_grammar.specs.declared.fault.Word.{Word}

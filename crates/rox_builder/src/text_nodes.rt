@@ -1,13 +1,12 @@
 //! Text nodes: adjacent pieces of character data are one text, which waits for its row while it may continue.
 
-ghost use Rattle.std.specs.Prelude.{◌<◌, ◌≤◌, ◌+◌, ◌≡◌, ◌≢◌, [], ℕ, List, length, is_some, IfOk, OnOk};
+ghost use Rattle.std.specs.Prelude.{◌<◌, ◌≤◌, ◌+◌, ◌≡◌, ◌≢◌, [], ℕ, List, length, is_some, IfOk, OnOk, string_bytes};
 ghost use Rattle.rox_rows.specs.StoredNodes.{kind_of};
 ghost use Rattle.rox_rows.specs.declared.row.NodeKind.TheVariants as kind;
 ghost use Rattle.rox_builder.specs.TakenText.{MayTakeLast, TakesLast};
 ghost use Rattle.rox_builder.specs.PendingText.{waiting, written, text_of};
 ghost use Rattle.rox_storage.specs.Storage.{storage_bytes, is_borrowed};
 ghost use Rattle.rox_builder.specs.declared.pending.Pending.TheVariants as pending;
-ghost use Rattle.std.specs.String.{string_bytes};
 ghost use Rattle.rox_values.specs.Values.{IsItsSlice, piece_view};
 
 use crate::builder::Builder;

@@ -1,8 +1,7 @@
 -- Bytes where each 239 that 191 does not follow counts as 255.
-use Rattle.std.proofs.Common.{◌≡◌, ◌⊎◌, ℕ, zero, suc, ◌+◌, ◌-◌, ◌<◌, ◌≤◌, ◌==◌, ◌||◌, ◌&&◌, Bool, true, false, not, cond, List, [], ◌∷◌, ◌++◌, map, replicate, length, get_or, take, drop, bit_and, refl, sym, ap, ◌∙◌, arith, inl, inr, get_or-drop, length-drop, length-append, IsUtf8}
+use Rattle.std.proofs.Common.{◌≡◌, ◌⊎◌, ℕ, zero, suc, ◌+◌, ◌-◌, ◌<◌, ◌≤◌, ◌==◌, ◌||◌, ◌&&◌, Bool, true, false, not, cond, List, [], ◌∷◌, ◌++◌, map, replicate, length, get_or, take, drop, bit_and, refl, sym, ap, ◌∙◌, arith, inl, inr, get_or-drop, length-drop, length-append, IsUtf8, chars, IsCharBoundary}
 use Rattle.std.specs.Char.{encode_utf8}
 use Rattle.std.specs.Simd.Lanes.{sel_l, top, zip2}
-use Rattle.std.specs.Str.{chars, IsCharBoundary}
 use Rattle.std.proofs.Math.Utf8.{encodes}
 use Rattle.std.proofs.lemmas.Bool.{and_parts, and_from, cases_eq, cases_lt, false≢true}
 use Rattle.std.proofs.lemmas.Bool.Decides.{nat_tests}

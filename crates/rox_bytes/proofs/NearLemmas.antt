@@ -1,7 +1,6 @@
 -- What a first look at plain bytes tells of a text.
-use Rattle.std.proofs.Common.{◌≡◌, ℕ, zero, suc, ◌+◌, ◌-◌, ◌<◌, ◌≤◌, ◌==◌, ◌||◌, Bool, true, false, not, List, Ok, length, get_or, take, drop, slice_index, slice_range, refl, sym, ap, subst, ◌∙◌, arith, inl, inr, get_or-drop, length-drop}
+use Rattle.std.proofs.Common.{◌≡◌, ℕ, zero, suc, ◌+◌, ◌-◌, ◌<◌, ◌≤◌, ◌==◌, ◌||◌, Bool, true, false, not, List, Ok, length, get_or, take, drop, slice_index, slice_range, refl, sym, ap, subst, ◌∙◌, arith, inl, inr, get_or-drop, length-drop, IsUtf8, IsCharBoundary}
 use Rattle.std.specs.List.{list_any, list_all}
-use Rattle.std.specs.Str.{IsUtf8, IsCharBoundary}
 use Rattle.std.proofs.lemmas.Bool.{and_parts, cases_eq, cases_lt, eq-eqb, eqb-true, le-ltb, lt-leb}
 use Rattle.std.proofs.lemmas.Bool.Decides.{nat_tests}
 use Rattle.std.proofs.lemmas.List.{length-take, get_or-take, drop_more, drop_all, get_or_past}

@@ -1,8 +1,7 @@
 -- How the result of a step relates to what is read.
-use Rattle.std.specs.Prelude.{◌≡◌, ◌==◌, ◌+◌, ◌≤◌, ◌<◌, ℕ, Bool, true, false, List, length, drop, slice_index}
+use Rattle.std.specs.Prelude.{◌≡◌, ◌==◌, ◌+◌, ◌≤◌, ◌<◌, ℕ, Bool, true, false, List, length, drop, slice_index, IsCharBoundary, chars}
 use Rattle.std.specs.List.{position_or_len}
 use Rattle.std.specs.Char.{len_utf8}
-use Rattle.std.specs.Str.{IsCharBoundary, chars}
 use Rattle.rox_grammar.specs.Runs.{StandsAt}
 use Rattle.rox_grammar.specs.Search.{byte_from}
 use Rattle.rox_bytes.specs.ByteSets.{EndsSet, is_part_byte}

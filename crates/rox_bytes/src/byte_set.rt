@@ -1,7 +1,6 @@
 //! Runs of plain bytes, sixteen at a time: the first look at names, values, character data and comments.
 
-ghost use Rattle.std.specs.Prelude.{IfSome, ◌≡◌, ◌+◌, ◌<◌, ◌≤◌, ℕ, Bool, not, map, take, drop, length};
-ghost use Rattle.std.specs.Str.{IsCharBoundary};
+ghost use Rattle.std.specs.Prelude.{IfSome, ◌≡◌, ◌+◌, ◌<◌, ◌≤◌, ℕ, Bool, not, map, take, drop, length, IsCharBoundary};
 ghost use Rattle.std.specs.Int.{w64, trailing_zeros};
 ghost use Rattle.std.specs.Simd.Lanes.{mask_l};
 ghost use Rattle.rox_grammar.specs.Chars as spec;
@@ -344,35 +343,6 @@ fn bytes_end<C: ByteSet>(bytes: &[u8], at: usize) -> usize
     bytes_end_beyond::<C>(bytes, at + 16)
 }
 
-/// Returns the offset `at`, if a byte is there.
-#[inline(always)]
-fn some_byte(bytes: &[u8], at: usize) -> Option<usize>
-    ensures { IfSome result (λ i. (i ≡ at) × (i < length bytes.entry.now)) }
-{
-    if at >= bytes.len() {
-        return None;
-    }
-    Some(at)
-}
-
-/// Returns the offset of the first byte from `at` on that is not in the set, if there is one. Most are among the first sixteen.
-#[inline(always)]
-fn other_in<C: ByteSet>(bytes: &[u8], at: usize) -> Option<usize>
-    requires { at ≤ length bytes.now }
-    ensures { IfSome result (StopsSet C.test bytes.entry.now at) }
-{
-    if bytes.len() - at < 16 {
-        let end = short_end::<C>(bytes, at);
-        return some_byte(bytes, end);
-    }
-    let others = others_at::<C>(bytes, at);
-    if others != 0 {
-        return Some(at + before_first(others));
-    }
-    let end = bytes_end_beyond::<C>(bytes, at + 16);
-    some_byte(bytes, end)
-}
-
 /// The end of a run of bytes of a set, where another byte is. If `others` is not 0, it has a bit for each of the sixteen bytes from
 /// the start of the run on that is not in the set, the lowest for the first.
 #[derive(Clone, Copy)]
@@ -387,7 +357,9 @@ fn some_end(bytes: &[u8], at: usize) -> Option<RunEnd>
     ensures { IfSome result
         (λ e. (e.at ≡ at) × (e.others ≡ 0) × (at < length bytes.entry.now)) }
 {
-    let at = some_byte(bytes, at)?;
+    if at >= bytes.len() {
+        return None;
+    }
     Some(RunEnd { at, others: 0 })
 }
 
@@ -429,7 +401,8 @@ pub fn find_other<C: ByteSet>(text: &str, at: usize) -> Option<usize>
     requires { at ≤ length text.now }
     ensures { IfSome result (StopsSet C.test text.entry.now at) }
 {
-    other_in::<C>(text.as_bytes(), at)
+    let run = find_run::<C>(text, at)?;
+    Some(run.at)
 }
 
 /// Returns the end of the bytes of the set after the byte at which `run` ends. The run starts at `at`. Most ends are among the

@@ -1,6 +1,5 @@
 //! Runs of characters.
-ghost use Rattle.std.specs.Prelude.{◌≡◌, ◌==◌, ◌+◌, ◌<◌, slice_index};
-ghost use Rattle.std.specs.Str.{IsCharBoundary, chars};
+ghost use Rattle.std.specs.Prelude.{◌≡◌, ◌==◌, ◌+◌, ◌<◌, slice_index, IsCharBoundary, chars};
 ghost use Rattle.rox_grammar.specs.Runs.{run_end, begins};
 ghost use Rattle.rox_bytes.specs.ScanResults.{Finds, HasByteAt, HasCharAt, IsCharAt};
 

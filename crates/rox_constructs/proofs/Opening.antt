@@ -1,5 +1,5 @@
 -- The row of an element whose start tag was read.
-use Rattle.std.proofs.Common.{◌≡◌, ℕ, ◌+◌, ◌<◌, List, [], ◌∷◌, ◌++◌, length, map, drop, refl, sym, ap, subst, ◌∙◌, arith, length-append, Option, Bool, true, false, Result, Ok, Err}
+use Rattle.std.proofs.Common.{◌≡◌, ℕ, ◌+◌, ◌<◌, List, [], ◌∷◌, ◌++◌, length, map, drop, refl, sym, ap, subst, ◌∙◌, arith, length-append, Option, Bool, true, false, Result, Ok, Err, OnOk}
 use Rattle.std.specs.List.{AllByRecursion, slice_range}
 use Rattle.std.proofs.lemmas.List.{length-map}
 use Rattle.rox_grammar.specs.declared.fault.Fault.{Fault}
@@ -27,7 +27,6 @@ use Rattle.rox_names.specs.TagScopes.{lists_in}
 use Rattle.rox_starts.specs.ElementRow.{Tagged}
 use Rattle.rox_builder.specs.BuilderState.{names_in, IsRowWithin, AreSound, IsConsistent, Grown, IsNode, IsOpening, Adds, ScansTo}
 use Rattle.rox_names.specs.OpenElements.{IsOpenWithin, HasName, IsNamespaceOf, IsOpened, open_name}
-use Rattle.std.specs.Result.{OnOk}
 use Rattle.rox_rows.specs.declared.row.NodeKind.TheVariants as kind
 use Rattle.rox_names.specs.declared.tables.ElementTables.{ElementTables}
 use Rattle.rox_names.specs.declared.open_element.OpenElement.{OpenElement}

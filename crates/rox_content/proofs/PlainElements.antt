@@ -1,6 +1,5 @@
 -- An element whose start tag the fast path read, below the innermost open element.
-use Rattle.std.proofs.Common.{◌≡◌, ◌+◌, ◌-◌, ◌<◌, ◌^◌, ℕ, Bool, true, false, Option, Some, [], ◌∷◌, ◌++◌, Ok, List, length, take, get_or, slice_index, vec_len, vec_capacity, arith, refl, sym, ap, subst, ◌∙◌}
-use Rattle.std.specs.Str.{IsUtf8}
+use Rattle.std.proofs.Common.{◌≡◌, ◌+◌, ◌-◌, ◌<◌, ◌^◌, ℕ, Bool, true, false, Option, Some, [], ◌∷◌, ◌++◌, Ok, List, length, take, get_or, slice_index, vec_len, vec_capacity, arith, refl, sym, ap, subst, ◌∙◌, IsUtf8}
 use Rattle.rox_grammar.specs.Written.{Element, Item, NamespaceDecl}
 use Rattle.rox_grammar.specs.Forest.{Forest}
 use Rattle.rox_grammar.specs.State.{Open, scope_of}

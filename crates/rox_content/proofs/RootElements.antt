@@ -1,7 +1,6 @@
 -- The root element's start tag at one look: what the builder shows where it is read, and where it is not.
-use Rattle.std.proofs.Common.{◌≡◌, ℕ, List, [], ◌∷◌, Result, false, length, refl, sym, ap, subst, ◌∙◌, arith, length-append}
+use Rattle.std.proofs.Common.{◌≡◌, ℕ, List, [], ◌∷◌, Result, false, length, refl, sym, ap, subst, ◌∙◌, arith, length-append, OnOk, is_err}
 use Rattle.std.specs.List.{AllByRecursion}
-use Rattle.std.specs.Result.{OnOk, is_err}
 use Rattle.std.proofs.lemmas.List.{append-nil, length-map}
 use Rattle.rox_grammar.specs.State.{Open, inside, root, scope_of}
 use Rattle.rox_reading.specs.State.{State}

@@ -1,8 +1,7 @@
 -- Two stretches of bytes that begin alike.
-use Rattle.std.proofs.Common.{◌≡◌, ℕ, ◌<◌, ◌^◌, ◌%◌, Bool, false, not, eqb, cond, List, map, length, get_or, sym, ap, subst, ◌∙◌, arith, w8}
+use Rattle.std.proofs.Common.{◌≡◌, ℕ, ◌<◌, ◌^◌, ◌%◌, Bool, false, not, eqb, cond, List, map, length, get_or, sym, ap, subst, ◌∙◌, arith, w8, map-id}
 use Rattle.std.specs.Simd.Lanes.{mask_l, top, zip2}
 use Rattle.std.proofs.lemmas.Bool.{eqb-true, not-false, not-true}
-use Rattle.std.proofs.lemmas.List.{map-id}
 use Rattle.std.proofs.lemmas.List.Sums.{prefix_len_passes}
 use Rattle.std.proofs.lemmas.Simd.{length-zip2, get_or-zip2, tops_compared, mask_l-mod, leading_from_mask_l, trailing_mask_l}
 use lib.Count.{count_trailing_zeros}

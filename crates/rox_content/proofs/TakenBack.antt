@@ -1,6 +1,5 @@
 -- Attributes of a tag that was given up are taken back.
-use Rattle.std.proofs.Common.{◌≡◌, ℕ, List, [], ◌++◌, length, sym, subst, ◌∙◌, arith, take}
-use Rattle.std.proofs.lemmas.List.{append-nil}
+use Rattle.std.proofs.Common.{◌≡◌, ℕ, List, [], ◌++◌, length, sym, subst, ◌∙◌, arith, take, append-nil}
 use Rattle.std.proofs.Math.Seq.{take-append_seam}
 use Rattle.rox_rows.specs.Rows.{AttributeRow, attribute_rows}
 use Rattle.rox_tags.specs.PlainTag.{HoldSame}

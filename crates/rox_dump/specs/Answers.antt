@@ -1,7 +1,6 @@
 -- The answers of a resolver, call by call.
-use Rattle.std.specs.Prelude.{ℕ, ◌-◌, Bool, false, List, Option, Some, None, Result, Ok, Err, ◌==◌, length, string_bytes}
+use Rattle.std.specs.Prelude.{ℕ, ◌-◌, Bool, false, List, Option, Some, None, Result, Ok, Err, ◌==◌, length, string_bytes, slice_get}
 use Rattle.std.specs.Option.{option_or}
-use Rattle.std.specs.List.{slice_get}
 use Rattle.rox_dump.specs.declared.answers.Answer.{Answer}
 use Rattle.rox_dump.specs.declared.answers.Answer.TheVariants as answer
 use Rattle.rox_dump.specs.declared.answers.Answers.{Answers}

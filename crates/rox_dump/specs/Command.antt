@@ -1,5 +1,4 @@
-use Rattle.std.specs.Prelude.{ℕ, ◌^◌, Bool, true, false, List, [], ◌∷◌, ◌++◌, ◌==◌, Option, Some, None, codes, map, bytes_eq, nat_lt, option_map, option_and_then, if◌then◌else◌}
-use Rattle.std.specs.Option.{is_some}
+use Rattle.std.specs.Prelude.{ℕ, ◌^◌, Bool, true, false, List, [], ◌∷◌, ◌++◌, ◌==◌, Option, Some, None, codes, map, bytes_eq, nat_lt, option_map, option_and_then, if◌then◌else◌, is_some}
 use Rattle.rox_dump.specs.Numbers.{number_of}
 use Rattle.rox_dump.specs.declared.options.Options.{Options}
 use Rattle.rox_dump.specs.declared.options.AnswerWord.{AnswerWord}

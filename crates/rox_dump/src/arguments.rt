@@ -1,7 +1,6 @@
 //! Reading of the program's arguments.
 
-ghost use Rattle.std.specs.Prelude.{◌≡◌, ◌<◌, map, length, string_bytes, IfOk, IfSome, IsNone, OnOk};
-ghost use Rattle.std.specs.Option.{option_map};
+ghost use Rattle.std.specs.Prelude.{◌≡◌, ◌<◌, map, length, string_bytes, IfOk, IfSome, IsNone, OnOk, option_map};
 ghost use Rattle.rox_dump.specs.Command.{CommandView, meaning, nothing_asked, changed, limit_of, with_flag, with_value, with_file, with_last, command_with, command_of};
 
 use crate::numbers::number;

@@ -1,6 +1,5 @@
 -- Counts of bytes in parts of a text, and of characters by their first bytes.
-use Rattle.std.proofs.Common.{◌≡◌, ◌≤◌, ◌<◌, ℕ, ◌+◌, ◌/◌, Bool, true, false, cond, ◌||◌, List, [], ◌∷◌, length, take, drop, count_by, nat_lt, nat_le, refl, sym, ap, ◌∙◌, arith}
-use Rattle.std.specs.Str.{IsUtf8, chars}
+use Rattle.std.proofs.Common.{◌≡◌, ◌≤◌, ◌<◌, ℕ, ◌+◌, ◌/◌, Bool, true, false, cond, ◌||◌, List, [], ◌∷◌, length, take, drop, count_by, nat_lt, nat_le, refl, sym, ap, ◌∙◌, arith, IsUtf8, chars}
 use lib.Utf8.{encode, encodes, next}
 use lib.Dec.{ltb, ltb→lt}
 use Rattle.std.proofs.lemmas.Bool.Decides.{nat_tests}

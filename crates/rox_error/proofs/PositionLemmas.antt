@@ -1,7 +1,6 @@
 -- Where a character and a line begin.
-use Rattle.std.proofs.Common.{◌≡◌, ℕ, zero, suc, ◌+◌, ◌-◌, ◌<◌, ◌≤◌, ◌==◌, true, not, cond, List, length, take, drop, get_or, inl, inr, refl, sym, ap, ◌∙◌, arith, add-zero, add-one, add-suc}
+use Rattle.std.proofs.Common.{◌≡◌, ℕ, zero, suc, ◌+◌, ◌-◌, ◌<◌, ◌≤◌, ◌==◌, true, not, cond, List, length, take, drop, get_or, inl, inr, refl, sym, ap, ◌∙◌, arith, add-zero, add-one, add-suc, take_all}
 use Rattle.std.proofs.lemmas.Bool.{cases_Bool, false_from_ne_true}
-use Rattle.std.proofs.lemmas.List.{take_all}
 use Rattle.std.proofs.lemmas.List.Sums.{suffix_len-take_yes, suffix_len-take_no}
 use Rattle.std.specs.List.{suffix_len, after_last}
 

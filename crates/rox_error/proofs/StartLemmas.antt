@@ -1,6 +1,5 @@
 -- Messages that all errors of a kind start with.
-use Rattle.std.proofs.Common.{◌≡◌, ℕ, List, String, Some, refl}
-use Rattle.std.specs.Borrow.{Bor}
+use Rattle.std.proofs.Common.{◌≡◌, ℕ, List, String, Some, refl, Bor}
 use Rattle.std.specs.declared.alloc.Global.{Global}
 use Rattle.rox_error.specs.declared.position.TextPos.{TextPos}
 use Rattle.rox_error.specs.declared.error.Error.{Error}

@@ -1,6 +1,5 @@
 -- The fixed texts are text.
-use Rattle.std.proofs.Common.{refl}
-use Rattle.std.specs.Str.{IsUtf8}
+use Rattle.std.proofs.Common.{refl, IsUtf8}
 use lib.Utf8.{encode}
 use Rattle.rox_grammar.specs.declared.fault.Expected.{Expected}
 use Rattle.rox_grammar.specs.declared.fault.Expected.TheVariants.{CommentEnd}

@@ -1,7 +1,6 @@
 //! Rows and columns of a text.
 
-ghost use Rattle.std.specs.Prelude.{◌≡◌, ◌+◌, min};
-ghost use Rattle.std.specs.Str.{IsCharBoundary};
+ghost use Rattle.std.specs.Prelude.{◌≡◌, ◌+◌, min, IsCharBoundary};
 ghost use Rattle.rox_grammar.specs.Positions as spec;
 
 use crate::counting::{FirstByte, LineFeed, count};

@@ -1,6 +1,5 @@
 -- An element within an element, and another in its place.
-use Rattle.std.proofs.Common.{◌≡◌, ℕ, ◌+◌, ◌<◌, ◌≤◌, Bool, true, false, List, lt-ltb, refl, sym, ap, ◌∙◌, subst, arith}
-use Rattle.std.proofs.lemmas.Bool.{eq-eqb, ne_eqb}
+use Rattle.std.proofs.Common.{◌≡◌, ℕ, ◌+◌, ◌<◌, ◌≤◌, Bool, true, false, List, lt-ltb, refl, sym, ap, ◌∙◌, subst, arith, eq-eqb, ne_eqb}
 use Rattle.rox_grammar.specs.Forest.{Forest, Nil, Cons, join}
 use Rattle.rox_grammar.specs.Written.{Tag, Item, Element, Text, Comment, PI, glue, merge}
 use Rattle.rox_grammar.specs.Entities.{no_entities}

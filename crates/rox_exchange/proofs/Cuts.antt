@@ -1,12 +1,11 @@
 -- What is in a source is in each that has the same bytes up to its end.
-use Rattle.std.proofs.Common.{◌≡◌, ℕ, zero, suc, ◌+◌, ◌-◌, ◌<◌, ◌≤◌, ◌⊎◌, ◌==◌, Bool, true, false, List, [], ◌∷◌, ◌++◌, length, take, drop, get_or, refl, sym, ap, ◌∙◌, subst, arith, inl, inr, length-drop, length-take, length-append}
+use Rattle.std.proofs.Common.{◌≡◌, ℕ, zero, suc, ◌+◌, ◌-◌, ◌<◌, ◌≤◌, ◌⊎◌, ◌==◌, Bool, true, false, List, [], ◌∷◌, ◌++◌, length, take, drop, get_or, refl, sym, ap, ◌∙◌, subst, arith, inl, inr, length-drop, length-take, length-append, chars, IsUtf8, IsCharBoundary, encode_utf8_all}
 use Rattle.std.specs.List.{position_or_len, starts_with}
 use Rattle.std.proofs.lemmas.Bool.{cases_Bool}
 use Rattle.std.proofs.lemmas.List.{drop-take, take-take, get_or-take, drop-append-le}
 use Rattle.std.proofs.lemmas.Grind.{common_steps}
 use Rattle.rox_grammar.specs.Search.{stands, before_mark, mark_from, byte_from}
 use Rattle.std.specs.Char.{encode_utf8, len_utf8}
-use Rattle.std.specs.Str.{chars, IsUtf8, IsCharBoundary, encode_utf8_all}
 use Rattle.std.proofs.lemmas.Str.{chars-append, encodes-chars, length-encode, IsUtf8-drop}
 use Rattle.rox_grammar.specs.Runs.{run_end, passing}
 use Rattle.rox_grammar.specs.Chars.{is_char}

@@ -1,8 +1,6 @@
 -- Exchanges keep elements self-contained, may be taken back, and commute.
-use Rattle.std.proofs.Common.{◌≡◌, ℕ, zero, suc, ◌+◌, ◌-◌, ◌<◌, ◌≤◌, true, List, [], ◌++◌, length, take, drop, lt-ltb, le-ltb, refl, sym, ap, ◌∙◌, subst, arith, inl, inr, length-take, length-append, take-append-drop}
-use Rattle.std.specs.Str.{IsUtf8}
+use Rattle.std.proofs.Common.{◌≡◌, ℕ, zero, suc, ◌+◌, ◌-◌, ◌<◌, ◌≤◌, true, List, [], ◌++◌, length, take, drop, lt-ltb, le-ltb, refl, sym, ap, ◌∙◌, subst, arith, inl, inr, length-take, length-append, take-append-drop, IsUtf8, append_assoc, drop-drop}
 use Rattle.std.proofs.lemmas.Bool.{cases_lt, and_parts}
-use Rattle.std.proofs.lemmas.List.{append_assoc, drop-drop}
 use Rattle.std.proofs.Math.Seq.{drop-append_seam}
 use Rattle.rox_grammar.specs.Forest.{Forest, Nil, Cons, size}
 use Rattle.rox_grammar.specs.Written.{NamespaceDecl, Item, Element, Text, Comment, PI}

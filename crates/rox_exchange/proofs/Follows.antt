@@ -1,7 +1,6 @@
 -- What is at a place of a source stands wherever the same bytes follow: bytes, runs, marks, slices.
-use Rattle.std.proofs.Common.{◌≡◌, ℕ, ◌+◌, ◌-◌, ◌≤◌, ◌==◌, Bool, List, length, take, drop, sym, ap, ◌∙◌, subst, arith, length-drop}
+use Rattle.std.proofs.Common.{◌≡◌, ℕ, ◌+◌, ◌-◌, ◌≤◌, ◌==◌, Bool, List, length, take, drop, sym, ap, ◌∙◌, subst, arith, length-drop, chars}
 use Rattle.std.specs.List.{starts_with}
-use Rattle.std.specs.Str.{chars}
 use Rattle.std.proofs.lemmas.List.{drop-drop, drop-take}
 use Rattle.std.proofs.lemmas.Grind.{common_steps}
 use Rattle.rox_grammar.specs.Runs.{run_end, begins, first_passes}

@@ -1,8 +1,7 @@
 -- What is in a source is in each that has the same bytes up to its end: runs of characters, and where characters begin.
-use Rattle.std.proofs.Common.{◌≡◌, ℕ, zero, suc, ◌+◌, ◌-◌, ◌<◌, Bool, true, false, List, [], ◌∷◌, ◌++◌, length, take, drop, refl, sym, ap, ◌∙◌, subst, arith, inl, inr, length-drop, length-take, length-append, take-append-drop}
+use Rattle.std.proofs.Common.{◌≡◌, ℕ, zero, suc, ◌+◌, ◌-◌, ◌<◌, Bool, true, false, List, [], ◌∷◌, ◌++◌, length, take, drop, refl, sym, ap, ◌∙◌, subst, arith, inl, inr, length-drop, length-take, length-append, take-append-drop, chars, IsUtf8, IsCharBoundary, encode_utf8_all}
 use Rattle.std.specs.List.{prefix_len}
 use Rattle.std.specs.Char.{encode_utf8, len_utf8}
-use Rattle.std.specs.Str.{chars, IsUtf8, IsCharBoundary, encode_utf8_all}
 use Rattle.std.proofs.lemmas.Bool.{cases_Bool}
 use Rattle.std.proofs.lemmas.List.{get_or-take, drop-append-le}
 use Rattle.std.proofs.lemmas.Str.{chars-append, encodes-chars, length-encode, IsUtf8-drop, IsCharBoundary-after_ascii}

@@ -1,7 +1,6 @@
 //! Laws of exchanges: they keep elements self-contained, may be taken back, and commute.
 
-ghost use Rattle.std.specs.Prelude.{◌≡◌, ℕ, List, true};
-ghost use Rattle.std.specs.Str.{IsUtf8};
+ghost use Rattle.std.specs.Prelude.{◌≡◌, ℕ, List, true, IsUtf8};
 ghost use Rattle.rox_grammar.specs.Forest.{Forest};
 ghost use Rattle.rox_grammar.specs.Tree.{Node};
 ghost use Rattle.rox_grammar.specs.Exchange.{self_contained, HasTree};

@@ -1,7 +1,6 @@
 //! Laws of whole documents: an element as a document, and an element of another document in the place of one.
 
-ghost use Rattle.std.specs.Prelude.{◌≡◌, ℕ, ◌-◌, ◌<◌, List, [], true, false};
-ghost use Rattle.std.specs.Str.{IsUtf8, IsCharBoundary};
+ghost use Rattle.std.specs.Prelude.{◌≡◌, ℕ, ◌-◌, ◌<◌, List, [], true, false, IsUtf8, IsCharBoundary};
 ghost use Rattle.rox_grammar.specs.Forest.{Forest, Nil, Cons};
 ghost use Rattle.rox_grammar.specs.Tree.{Node, Root};
 ghost use Rattle.rox_grammar.specs.Names.{slice};

@@ -1,7 +1,6 @@
 -- At a place on the way of a parse no fault stands but those of the limits, and where it is within the limits none; nor does one
 -- stand in a value of a start tag there.
-use Rattle.std.proofs.Common.{◌≡◌, ◌≢◌, ℕ, suc, ◌+◌, ◌-◌, ◌<◌, ◌≤◌, ◌⊎◌, ◌==◌, Bool, true, false, List, length, Some, Ok, refl, sym, ap, ◌∙◌, subst, arith, inl, inr}
-use Rattle.std.specs.Str.{IsUtf8, IsCharBoundary}
+use Rattle.std.proofs.Common.{◌≡◌, ◌≢◌, ℕ, suc, ◌+◌, ◌-◌, ◌<◌, ◌≤◌, ◌⊎◌, ◌==◌, Bool, true, false, List, length, Some, Ok, refl, sym, ap, ◌∙◌, subst, arith, inl, inr, IsUtf8, IsCharBoundary}
 use Rattle.std.proofs.lemmas.Str.{IsCharBoundary-before_ascii, IsCharBoundary-end}
 use Rattle.std.proofs.lemmas.Bool.{cases_Bool, lt-leb, le-leb, eq-eqb, eqb-true}
 use Rattle.rox_grammar.specs.declared.fault.Fault.{Fault}

@@ -1,8 +1,6 @@
 -- The place of reading is one that content reaches from the left: places of reading as the grammar sees them, and one node too many there.
-use Rattle.std.proofs.Common.{◌≡◌, ℕ, zero, suc, ◌+◌, ◌<◌, ◌≤◌, max, Bool, false, nat_le, List, [], length, refl, sym, subst, arith}
+use Rattle.std.proofs.Common.{◌≡◌, ℕ, zero, suc, ◌+◌, ◌<◌, ◌≤◌, max, Bool, false, nat_le, List, [], length, refl, sym, subst, arith, append-nil, leb-false}
 use Rattle.std.specs.Prelude.{Result, Ok, Err, Some}
-use Rattle.std.proofs.lemmas.List.{append-nil}
-use Rattle.std.proofs.lemmas.Bool.{leb-false}
 use Rattle.rox_grammar.specs.declared.fault.Fault.{Fault}
 use Rattle.rox_grammar.specs.declared.fault.Fault.TheVariants as fault
 use Rattle.rox_grammar.specs.Forest.{Forest, join}

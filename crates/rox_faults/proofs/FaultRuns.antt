@@ -1,8 +1,6 @@
 -- Runs that fail: in what they hold, by one node too many, or in a replacement text that is opened.
-use Rattle.std.proofs.Common.{◌≡◌, ◌≢◌, ℕ, zero, suc, ◌+◌, ◌-◌, ◌<◌, ◌≤◌, max, ◌==◌, Bool, true, false, eqb, ltb, nat_le, List, length, refl, sym, ap, ◌∙◌, subst, arith}
+use Rattle.std.proofs.Common.{◌≡◌, ◌≢◌, ℕ, zero, suc, ◌+◌, ◌-◌, ◌<◌, ◌≤◌, max, ◌==◌, Bool, true, false, eqb, ltb, nat_le, List, length, refl, sym, ap, ◌∙◌, subst, arith, IsUtf8, IsCharBoundary, eqb-true, ltb-true, leb-false}
 use Rattle.std.specs.Prelude.{Result, Err, Some, None}
-use Rattle.std.specs.Str.{IsUtf8, IsCharBoundary}
-use Rattle.std.proofs.lemmas.Bool.{eqb-true, ltb-true, leb-false}
 use Rattle.rox_grammar.specs.declared.fault.Fault.{Fault}
 use Rattle.rox_grammar.specs.declared.fault.Fault.TheVariants as fault
 use Rattle.rox_grammar.specs.declared.fault.Word.TheVariants as word

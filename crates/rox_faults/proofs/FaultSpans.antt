@@ -1,7 +1,6 @@
 -- The names in each refusal of reading are texts of the source that it counts in: the main text, a replacement text or an answer.
-use Rattle.std.proofs.Common.{◌≡◌, ℕ, zero, suc, ◌+◌, ◌-◌, ◌<◌, ◌≤◌, ◌==◌, ◌||◌, max, not, Bool, true, false, cond, leb, ltb, List, [], length, refl, ap, subst, arith}
+use Rattle.std.proofs.Common.{◌≡◌, ℕ, zero, suc, ◌+◌, ◌-◌, ◌<◌, ◌≤◌, ◌==◌, ◌||◌, max, not, Bool, true, false, cond, leb, ltb, List, [], length, refl, ap, subst, arith, IsUtf8, IsCharBoundary}
 use Rattle.std.specs.Prelude.{Result, Ok, Err, Option, nat_le}
-use Rattle.std.specs.Str.{IsUtf8, IsCharBoundary}
 use Rattle.std.proofs.lemmas.Str.{IsCharBoundary-after_ascii}
 use Rattle.std.proofs.lemmas.Bool.{eqb-true, not-false}
 use Rattle.rox_grammar.specs.declared.fault.Fault.{Fault}

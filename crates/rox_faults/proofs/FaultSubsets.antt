@@ -1,8 +1,6 @@
 -- A document type declaration that fails, or is cut off by the end of the text: which of its rows stands, and what was asked until then.
-use Rattle.std.proofs.Common.{◌≡◌, ◌≢◌, ℕ, zero, suc, ◌+◌, ◌-◌, ◌<◌, ◌≤◌, ◌⊎◌, max, ◌==◌, ◌||◌, true, false, nat_lt, nat_le, List, [], ◌++◌, length, refl, sym, ap, ◌∙◌, subst, arith, inl, inr, append_assoc}
+use Rattle.std.proofs.Common.{◌≡◌, ◌≢◌, ℕ, zero, suc, ◌+◌, ◌-◌, ◌<◌, ◌≤◌, ◌⊎◌, max, ◌==◌, ◌||◌, true, false, nat_lt, nat_le, List, [], ◌++◌, length, refl, sym, ap, ◌∙◌, subst, arith, inl, inr, append_assoc, IsUtf8, IsCharBoundary, append-nil}
 use Rattle.std.specs.Prelude.{Result, Ok, Err, Option, Some}
-use Rattle.std.specs.Str.{IsUtf8, IsCharBoundary}
-use Rattle.std.proofs.lemmas.List.{append-nil}
 use Rattle.std.proofs.lemmas.Bool.{cases_Bool, cond_both, eqb-true, eqb-false, leb-false, leb-true, ltb-true, ltb-false, or_cases, or_parts, true≢false}
 use Rattle.rox_grammar.specs.declared.fault.Fault.{Fault}
 use Rattle.rox_grammar.specs.declared.fault.Fault.TheVariants as fault

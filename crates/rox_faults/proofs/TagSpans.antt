@@ -1,8 +1,7 @@
 -- Names that a start tag's faults have are texts of the source.
-use Rattle.std.proofs.Common.{◌≡◌, ℕ, zero, suc, ◌+◌, Bool, cond, not, eqb, leb, ltb, List, [], ◌∷◌, ◌++◌, length, subst, arith}
+use Rattle.std.proofs.Common.{◌≡◌, ℕ, zero, suc, ◌+◌, Bool, cond, not, eqb, leb, ltb, List, [], ◌∷◌, ◌++◌, length, subst, arith, IsUtf8, IsCharBoundary}
 use Rattle.std.specs.Prelude.{Result, Ok, Err, bytes_eq, slice_index}
 use Rattle.std.specs.List.{list_any}
-use Rattle.std.specs.Str.{IsUtf8, IsCharBoundary}
 use Rattle.rox_grammar.specs.declared.fault.Fault.{Fault}
 use Rattle.rox_grammar.specs.declared.fault.Fault.TheVariants as fault
 use Rattle.rox_grammar.specs.declared.fault.Word.TheVariants as word

@@ -1,8 +1,7 @@
 //! The faults that reading meets. If no document type declaration is allowed, they are those of the grammar, and each names
 //! only texts of the source in which it counts.
 
-ghost use Rattle.std.specs.Prelude.{◌≡◌, ◌⊎◌, ℕ, Bool, false, List, [], Err};
-ghost use Rattle.std.specs.Str.{IsUtf8};
+ghost use Rattle.std.specs.Prelude.{◌≡◌, ◌⊎◌, ℕ, Bool, false, List, [], Err, IsUtf8};
 ghost use Rattle.rox_grammar.specs.declared.fault.Fault.{Fault};
 ghost use Rattle.rox_grammar.specs.Forest.{Forest};
 ghost use Rattle.rox_grammar.specs.Written.{Item};

@@ -1,8 +1,7 @@
 //! Laws of the calls, each a function whose contract is the law.
 
-ghost use Rattle.std.specs.Prelude.{◌≡◌, ◌≢◌, ◌↔◌, ℕ, ◌<◌, ◌≤◌, false, true, List, Some, None, IsTrue, IfSome, IsUtf8, length, slice_index, slice_get, count_by, if◌then◌else◌};
+ghost use Rattle.std.specs.Prelude.{◌≡◌, ◌≢◌, ◌↔◌, ℕ, ◌<◌, ◌≤◌, false, true, List, Some, None, IsTrue, IfSome, IsUtf8, length, slice_index, slice_get, count_by, if◌then◌else◌, option_map, is_some, IsCharBoundary};
 ghost use Rattle.std.specs.List.{last_or};
-ghost use Rattle.std.specs.Option.{option_map, is_some};
 ghost use Rattle.std.specs.Ordering.{nat_cmp, on, then_cmp};
 ghost use Rattle.rox_grammar.specs.Forest.{Forest, size};
 ghost use Rattle.rox_grammar.specs.Written.{Item};
@@ -12,7 +11,6 @@ ghost use Rattle.rox_grammar.specs.Document.{ParseOf, IsTreeOf};
 ghost use Rattle.roxmltree.specs.Places.{parent, children, first_child, last_child, next_sibling, prev_sibling};
 ghost use Rattle.roxmltree.specs.NodeRef.{id_of, document_of, tree_of, item_of, node_ref};
 ghost use Rattle.roxmltree.specs.NodeParts.{attributes_of, is_element_node, start_of, end_of};
-ghost use Rattle.std.specs.Str.{IsCharBoundary};
 ghost use Rattle.roxmltree.specs.ExpandedNames.{expanded, same_expanded_name, named, IsNamedAt};
 ghost use Rattle.roxmltree.specs.ElementLists.{attribute_of};
 ghost use Rattle.rox_laws.specs.NearestDeclaration.{upwards, NoneDeclares, IsNearest, IsElementAt, xml};

@@ -1,6 +1,5 @@
 -- A stretch of a list: its first, its last, and how many it has.
-use Rattle.std.proofs.Common.{◌≡◌, ℕ, ◌+◌, ◌-◌, ◌<◌, ◌≤◌, List, [], ◌∷◌, ◌++◌, length, get_or, map, take, drop, ap, ◌∙◌, drop-cons, arith}
-use Rattle.std.specs.List.{slice_range}
+use Rattle.std.proofs.Common.{◌≡◌, ℕ, ◌+◌, ◌-◌, ◌<◌, ◌≤◌, List, [], ◌∷◌, ◌++◌, length, get_or, map, take, drop, ap, ◌∙◌, drop-cons, arith, slice_range}
 use Rattle.std.proofs.lemmas.List.{take_more, take_all, get_or-drop, length-map, length-drop, length-take-le}
 
 -- the first, and the rest

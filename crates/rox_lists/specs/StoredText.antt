@@ -1,6 +1,5 @@
 -- Texts and processing instructions as the tables hold them.
-use Rattle.std.specs.Prelude.{ℕ, Bool, List, Option}
-use Rattle.std.specs.Option.{option_map}
+use Rattle.std.specs.Prelude.{ℕ, Bool, List, Option, option_map}
 use Rattle.rox_storage.specs.Storage.{storage_bytes, is_borrowed}
 use Rattle.rox_storage.specs.declared.storage.StringStorage.{StringStorage}
 use Rattle.rox_rows.specs.declared.row.PI.{PI}

@@ -1,8 +1,7 @@
 //! The search of a scope for a prefix, and for a URI. For a prefix it goes through the stretches of a rope from leaf to leaf.
 //! Access by index would start at the top for each place.
 
-ghost use Rattle.std.specs.Prelude.{◌≡◌, ◌++◌, None, length, map, reverse};
-ghost use Rattle.std.specs.Option.{option_map};
+ghost use Rattle.std.specs.Prelude.{◌≡◌, ◌++◌, None, length, map, reverse, option_map};
 ghost use Rattle.rox_grammar.specs.Tree.{same_prefix, uri_of};
 ghost use Rattle.rox_scopes.specs.NamespaceViews.{namespace_view};
 ghost use Rattle.rox_scopes.specs.Scopes.{prefix_view, entries, places_in, ArePlaces};

@@ -1,7 +1,6 @@
 //! A stretch of the table of attributes, and its search for a name.
 
-ghost use Rattle.std.specs.Prelude.{◌≡◌, None, map, slice_range};
-ghost use Rattle.std.specs.Option.{option_map};
+ghost use Rattle.std.specs.Prelude.{◌≡◌, None, map, slice_range, option_map};
 ghost use Rattle.rox_rows.specs.Rows.{attribute, attribute_rows};
 ghost use Rattle.rox_scopes.specs.NamespaceViews.{namespace_view};
 ghost use Rattle.rox_lists.specs.ElementLists.{attribute_of, IsAttributeStretch};

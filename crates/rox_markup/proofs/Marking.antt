@@ -1,7 +1,6 @@
 -- A character begins behind the byte order mark.
-use Rattle.std.proofs.Common.{◌≡◌, ℕ, ◌==◌, true, List, ◌++◌, length, drop, refl, sym}
+use Rattle.std.proofs.Common.{◌≡◌, ℕ, ◌==◌, true, List, ◌++◌, length, drop, refl, sym, IsUtf8, IsCharBoundary}
 use Rattle.std.specs.List.{starts_with}
-use Rattle.std.specs.Str.{IsUtf8, IsCharBoundary}
 use Rattle.std.specs.Char.{encode_utf8}
 use Rattle.std.proofs.lemmas.Str.{IsCharBoundary-at_seam, IsUtf8-past_char}
 use Rattle.std.proofs.lemmas.Bool.Decides.{Decides-eqb}

@@ -1,9 +1,8 @@
 -- A pair of the XML declaration that is written as most are.
-use Rattle.std.proofs.Common.{◌≡◌, ℕ, ◌+◌, ◌-◌, ◌<◌, ◌≤◌, ◌==◌, ◌&&◌, ◌||◌, nat_lt, true, false, List, [], Ok, length, slice_index, slice_range, refl, sym, ap, ◌∙◌, arith}
+use Rattle.std.proofs.Common.{◌≡◌, ℕ, ◌+◌, ◌-◌, ◌<◌, ◌≤◌, ◌==◌, ◌&&◌, ◌||◌, nat_lt, true, false, List, [], Ok, length, slice_index, slice_range, refl, sym, ap, ◌∙◌, arith, IsUtf8}
 use Rattle.std.proofs.lemmas.Bool.{and_parts, lt-leb, ltb-true, true_from_ne_false, true≢false}
 use Rattle.std.proofs.lemmas.List.Folds.{list_all_at}
 use Rattle.std.specs.List.{list_all}
-use Rattle.std.specs.Str.{IsUtf8}
 use Rattle.rox_grammar.specs.Chars.{is_space, is_name_char, is_name_start, is_part_char}
 use Rattle.rox_grammar.specs.ExpectedTexts.{expected_text}
 use Rattle.rox_grammar.specs.declared.fault.Expected.{Expected}

@@ -1,7 +1,6 @@
 -- What is read of constructs, without where it is in memory.
-use Rattle.std.specs.Prelude.{◌≡◌, ◌≤◌, List, ℕ, Bool, Option, Result, IfOk, Ok, option_map, slice_range}
+use Rattle.std.specs.Prelude.{◌≡◌, ◌≤◌, List, ℕ, Bool, Option, Result, IfOk, Ok, option_map, slice_range, IsCharBoundary}
 use Rattle.std.specs.Borrow.{Bor}
-use Rattle.std.specs.Str.{IsCharBoundary}
 use Rattle.rox_grammar.specs.Content.{is_verbatim_value}
 use Rattle.rox_reading.specs.Markup as markup
 use Rattle.rox_grammar.specs.Failures.{name_view}

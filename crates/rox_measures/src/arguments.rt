@@ -1,7 +1,6 @@
 //! Reading of the program's arguments.
 
-ghost use Rattle.std.specs.Prelude.{◌≡◌, map, string_bytes, IfOk};
-ghost use Rattle.std.specs.Option.{option_map};
+ghost use Rattle.std.specs.Prelude.{◌≡◌, map, string_bytes, IfOk, option_map};
 ghost use Rattle.rox_measures.specs.Command.{meaning, AsksFor, with_file, Gives};
 
 use std::alloc::AllocError;

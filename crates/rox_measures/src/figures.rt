@@ -1,8 +1,6 @@
 //! What is told of a list of times: the best, the median, and rates.
 
-ghost use Rattle.std.specs.Prelude.{◌≡◌, ◌≤◌, ◌*◌, ◌/◌, ◌↔◌, [], length, max, All, Contains, IsNone, IfSome, MatchOption, Some};
-ghost use Rattle.std.specs.List.{slice_get};
-ghost use Rattle.std.specs.List.Sorted.{IsSorted, IsPermutation};
+ghost use Rattle.std.specs.Prelude.{◌≡◌, ◌≤◌, ◌*◌, ◌/◌, ◌↔◌, [], length, max, All, Contains, IsNone, IfSome, MatchOption, Some, slice_get, IsSorted, IsPermutation};
 ghost use Rattle.std.specs.Ordering.{nat_cmp};
 
 use std::fmt;

@@ -1,6 +1,5 @@
 -- What is looked up for a scope: among its places, where they are few, and else by the places of prefixes.
-use Rattle.std.proofs.Common.{◌≡◌, ℕ, true, false, List, length, map, Bor, Option, Some, None, sym, ap, subst, ◌∙◌}
-use Rattle.std.specs.Option.{IfSome, IfNone}
+use Rattle.std.proofs.Common.{◌≡◌, ℕ, true, false, List, length, map, Bor, Option, Some, None, sym, ap, subst, ◌∙◌, IfSome, IfNone}
 use Rattle.std.proofs.lemmas.List.{length-map}
 use Rattle.rox_grammar.specs.Written.{NamespaceDecl}
 use Rattle.rox_scopes.specs.declared.namespace.Namespace.{Namespace}

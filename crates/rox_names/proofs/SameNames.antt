@@ -1,8 +1,7 @@
 -- A name that was read is read again wherever the same bytes stand before `>`.
-use Rattle.std.proofs.Common.{◌≡◌, ℕ, ◌+◌, ◌-◌, ◌<◌, ◌≤◌, Bool, false, List, [], ◌∷◌, ◌++◌, Ok, length, take, drop, slice_index, slice_range, refl, sym, ap, ◌∙◌, subst, arith, inl, inr, add-zero, length-drop, length-append, get_or-drop, take-append-drop}
+use Rattle.std.proofs.Common.{◌≡◌, ℕ, ◌+◌, ◌-◌, ◌<◌, ◌≤◌, Bool, false, List, [], ◌∷◌, ◌++◌, Ok, length, take, drop, slice_index, slice_range, refl, sym, ap, ◌∙◌, subst, arith, inl, inr, add-zero, length-drop, length-append, get_or-drop, take-append-drop, chars, IsUtf8, IsCharBoundary, encode_utf8_all}
 use Rattle.std.specs.Prelude.{bytes_eq}
 use Rattle.std.specs.Char.{encode_utf8, len_utf8}
-use Rattle.std.specs.Str.{chars, IsUtf8, IsCharBoundary, encode_utf8_all}
 use Rattle.std.proofs.lemmas.Bool.{cases_Bool}
 use Rattle.std.proofs.lemmas.List.{drop-drop, drop-take, take-take, length-take, get_or-take}
 use Rattle.std.proofs.lemmas.Str.{chars-append, encodes-chars, length-encode, len_utf8_bounds, IsUtf8-drop, IsUtf8-take, IsCharBoundary-after_ascii}

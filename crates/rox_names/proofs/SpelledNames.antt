@@ -1,6 +1,5 @@
 -- The bytes of a name spell it.
-use Rattle.std.proofs.Common.{inl, inr, ◌∷◌, ◌≡◌, ℕ, ◌+◌, ◌-◌, ◌<◌, ◌≤◌, ◌==◌, true, false, List, [], length, take, drop, slice_index, slice_range, refl, sym, ap, ◌∙◌, subst, not, arith, add-zero, get_or-drop, length-drop, Ok}
-use Rattle.std.specs.Str.{IsUtf8, IsCharBoundary}
+use Rattle.std.proofs.Common.{inl, inr, ◌∷◌, ◌≡◌, ℕ, ◌+◌, ◌-◌, ◌<◌, ◌≤◌, ◌==◌, true, false, List, [], length, take, drop, slice_index, slice_range, refl, sym, ap, ◌∙◌, subst, not, arith, add-zero, get_or-drop, length-drop, Ok, IsUtf8, IsCharBoundary}
 use Rattle.std.proofs.lemmas.Bool.{cases_lt, eq-eqb, eqb-true, le-ltb, lt-ltb, not-false}
 use Rattle.std.proofs.lemmas.List.{drop-drop, drop-take, take-take, length-take, get_or-take}
 use Rattle.std.proofs.lemmas.List.Sums.{fails_before_first, position_or_len_is, prefix_len-le-length}

@@ -1,7 +1,5 @@
 -- Open elements, and the names and scopes that tables hold.
-use Rattle.std.specs.Prelude.{◌≡◌, ℕ, ◌+◌, take, drop, slice_index, ◌<◌, ◌≤◌, List, Option, Ok, length, map}
-use Rattle.std.specs.Str.{IsUtf8}
-use Rattle.std.specs.Option.{option_map}
+use Rattle.std.specs.Prelude.{◌≡◌, ℕ, ◌+◌, take, drop, slice_index, ◌<◌, ◌≤◌, List, Option, Ok, length, map, IsUtf8, option_map}
 use Rattle.rox_grammar.specs.Written.{Name}
 use Rattle.rox_grammar.specs.Tree.{element_namespace}
 use Rattle.rox_reading.specs.Lexical.{qname_at}

@@ -1,7 +1,6 @@
 -- What each step of reading a path gives.
 use Prim.Native.Char.{code}
-use Rattle.std.specs.Prelude.{◌≡◌, ℕ, ◌<◌, ◌≤◌, List, length}
-use Rattle.std.specs.Str.{IsCharBoundary}
+use Rattle.std.specs.Prelude.{◌≡◌, ℕ, ◌<◌, ◌≤◌, List, length, IsCharBoundary}
 use Rattle.rox_grammar.specs.Names.{byte, slice}
 use Rattle.rox_path.specs.declared.parse.PathError.{PathError}
 use Rattle.rox_path.specs.declared.parse.PathError.TheVariants.{BadPath, OutOfMemory}

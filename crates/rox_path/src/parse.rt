@@ -1,7 +1,6 @@
 //! The text of paths: `//item/{urn:x}name`.
 
-ghost use Rattle.std.specs.Prelude.{◌≡◌, ◌≢◌, ℕ, ◌≤◌, ◌==◌, List, map, IfOk, Err, Some, MatchResult, length};
-ghost use Rattle.std.specs.Str.{IsCharBoundary};
+ghost use Rattle.std.specs.Prelude.{◌≡◌, ◌≢◌, ℕ, ◌≤◌, ◌==◌, List, map, IfOk, Err, Some, MatchResult, length, IsCharBoundary};
 ghost use Rattle.rox_grammar.specs.Names.{byte};
 ghost use Rattle.roxmltree.specs.ExpandedNames.{expanded};
 ghost use Rattle.rox_path.specs.Steps.{PathStep, step_of};

@@ -1,7 +1,6 @@
 -- What a resolver's answer makes of a definition, whatever replies follow.
-use Rattle.std.proofs.Common.{◌≡◌, ℕ, List, [], ◌∷◌, ◌++◌, Option, Some, None, Ok, Err, refl, ap}
+use Rattle.std.proofs.Common.{◌≡◌, ℕ, List, [], ◌∷◌, ◌++◌, Option, Some, None, Ok, Err, refl, ap, append-nil}
 use Rattle.std.specs.Prelude.{IsUtf8, string_bytes}
-use Rattle.std.proofs.lemmas.List.{append-nil}
 use Rattle.rox_grammar.specs.declared.fault.Fault.{Fault}
 use Rattle.rox_grammar.specs.Names.{spaces_end}
 use Rattle.rox_grammar.specs.Entities.{Replacement}

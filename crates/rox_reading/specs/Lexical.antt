@@ -1,7 +1,6 @@
 -- What each small step reads at an offset of a source: a value and the next offset, or the first fault.
 use Prim.Native.Char.{code}
-use Rattle.std.specs.Prelude.{ℕ, ◌+◌, ◌==◌, ◌||◌, ◌&&◌, not, Bool, List, [], Result, Ok, Err, length, take, drop, slice_index, slice_range, nat_lt, nat_le, if◌then◌else◌}
-use Rattle.std.specs.Str.{chars}
+use Rattle.std.specs.Prelude.{ℕ, ◌+◌, ◌==◌, ◌||◌, ◌&&◌, not, Bool, List, [], Result, Ok, Err, length, take, drop, slice_index, slice_range, nat_lt, nat_le, if◌then◌else◌, chars}
 use Rattle.rox_grammar.specs.declared.fault.Due.TheVariants.{Space, Quote}
 use Rattle.rox_grammar.specs.declared.fault.Fault.{Fault}
 use Rattle.rox_grammar.specs.declared.fault.Expected.{Expected}

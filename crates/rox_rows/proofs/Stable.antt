@@ -1,7 +1,6 @@
 -- What rows show stays as the tables behind them grow.
-use Rattle.std.proofs.Common.{◌≡◌, ℕ, ◌≤◌, List, ◌++◌, length, map, refl, ap, ◌∙◌, arith, Option}
+use Rattle.std.proofs.Common.{◌≡◌, ℕ, ◌≤◌, List, ◌++◌, length, map, refl, ap, ◌∙◌, arith, Option, option_map}
 use Rattle.std.specs.List.{AllByRecursion, slice_range}
-use Rattle.std.specs.Option.{option_map}
 use Rattle.rox_grammar.specs.Written.{NamespaceDecl}
 use Rattle.rox_grammar.specs.Tree as tree
 use Rattle.rox_rows.specs.declared.row.AttributeNamespace.{AttributeNamespace}

@@ -43,6 +43,13 @@ const FEW_NODES: usize = 1024;
 /// The attributes of most texts of fewer bytes fit into 21 rows, which are as wide.
 const FEW_ATTRIBUTES: usize = 2048;
 
+/// The length in bytes from which on a text is taken to have many nodes.
+const DENSE: usize = 3072;
+
+/// The most rows that a text of less than `SAMPLED` bytes gets room for because it might be dense. They have 38 KB: two such tables
+/// stay below 128 KB, from which on the C library gives freed memory back.
+const MOST_DENSE: usize = 800;
+
 /// Room for this many nodes is added to the estimate.
 const MORE_NODES: usize = 16;
 
@@ -100,15 +107,23 @@ fn by_sample(bytes: &[u8]) -> RowCounts {
     }
 }
 
-/// Returns the estimate from the length of a text alone. It is generous, so that tables seldom grow.
+/// Returns the estimate from the length of a text alone. A short text is taken to be dense, so that its tables seldom grow. In a
+/// longer one, rows that stay empty would cost more than growing.
 #[inline(always)]
 fn by_length(len: usize) -> RowCounts {
+    let dense = (len / 24).min(MOST_DENSE);
     RowCounts {
-        nodes: if len < FEW_NODES { 5 } else { len / 48 + 16 },
+        nodes: if len < FEW_NODES {
+            5
+        } else if len < DENSE {
+            len / 48 + 16
+        } else {
+            dense.max(len / 48) + 16
+        },
         attributes: if len < FEW_ATTRIBUTES {
             11
         } else {
-            len / 120 + 31
+            dense.max(len / 120) + 31
         },
     }
 }

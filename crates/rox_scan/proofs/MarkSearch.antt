@@ -1,7 +1,6 @@
 -- Where the first mark is.
-use Rattle.std.proofs.Common.{◌≡◌, ℕ, ◌+◌, ◌<◌, ◌≤◌, ◌==◌, List, length, drop, get_or, true, arith}
+use Rattle.std.proofs.Common.{◌≡◌, ℕ, ◌+◌, ◌<◌, ◌≤◌, ◌==◌, List, length, drop, get_or, true, arith, IsCharBoundary}
 use Rattle.std.specs.List.{position_or_len, starts_with}
-use Rattle.std.specs.Str.{IsCharBoundary}
 use Rattle.std.proofs.lemmas.List.Sums.{fails_before_first}
 use Rattle.rox_grammar.specs.Search.{before_mark, mark_from}
 use Rattle.rox_grammar.proofs.AtPlace.{mark_from_cut}

@@ -1,6 +1,5 @@
 -- What the scanner reads, without where it is in memory.
-use Rattle.std.specs.Prelude.{◌≡◌, ◌≤◌, List, ℕ, Result, IfOk, slice_range}
-use Rattle.std.specs.Str.{IsCharBoundary}
+use Rattle.std.specs.Prelude.{◌≡◌, ◌≤◌, List, ℕ, Result, IfOk, slice_range, IsCharBoundary}
 use Rattle.rox_grammar.specs.Content.{is_verbatim, is_verbatim_value}
 use Rattle.rox_grammar.specs.Entities.{Replacement}
 use Rattle.rox_reading.specs.Values.{raw_character_data_at}

@@ -1,8 +1,7 @@
 //! Character data as it is written (XML 1.0 section 2.4). There is a first look, at plain bytes, a look beyond them, from a byte
 //! that may be valid, and the fault of `]]>`.
 
-ghost use Rattle.std.specs.Prelude.{◌≡◌, ◌==◌, ◌||◌, ◌&&◌, ◌+◌, ◌<◌, ◌≤◌, IfSome, Ok, true, length, slice_index};
-ghost use Rattle.std.specs.Str.{IsCharBoundary};
+ghost use Rattle.std.specs.Prelude.{◌≡◌, ◌==◌, ◌||◌, ◌&&◌, ◌+◌, ◌<◌, ◌≤◌, IfSome, Ok, true, length, slice_index, IsCharBoundary};
 ghost use Rattle.rox_grammar.specs.Content as content;
 ghost use Rattle.rox_bytes.specs.ByteSets as near;
 ghost use Rattle.rox_scan.specs.Lookahead as longer;

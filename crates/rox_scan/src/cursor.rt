@@ -1,7 +1,6 @@
 //! An offset in a source, and the small steps that read from it.
 
-ghost use Rattle.std.specs.Prelude.{◌≡◌, ◌==◌, ◌||◌, ◌+◌, ◌<◌, true, length, nat_le};
-ghost use Rattle.std.specs.Str.{IsCharBoundary, IsUtf8};
+ghost use Rattle.std.specs.Prelude.{◌≡◌, ◌==◌, ◌||◌, ◌+◌, ◌<◌, true, length, nat_le, IsCharBoundary, IsUtf8};
 ghost use Rattle.std.proofs.Props.{props};
 ghost use Rattle.rox_grammar.specs.Chars.{is_name_char, is_space};
 ghost use Rattle.rox_grammar.specs.Runs.{run_end};

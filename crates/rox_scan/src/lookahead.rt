@@ -1,8 +1,7 @@
 //! Chars, and looks at values and comments beyond their plain bytes: a byte that is not plain may be valid. These are bytes of
 //! references, white space, the other quote, a dash, and 239.
 
-ghost use Rattle.std.specs.Prelude.{◌≡◌, ◌==◌, ◌||◌, ◌<◌, ◌≤◌, true, slice_index};
-ghost use Rattle.std.specs.Str.{IsCharBoundary};
+ghost use Rattle.std.specs.Prelude.{◌≡◌, ◌==◌, ◌||◌, ◌<◌, ◌≤◌, true, slice_index, IsCharBoundary};
 ghost use Rattle.rox_grammar.specs.Chars.{is_char};
 ghost use Rattle.rox_grammar.specs.Runs.{run_end};
 ghost use Rattle.rox_grammar.specs.Search.{stands};

@@ -1,6 +1,5 @@
 -- What an element declares is hidden in what it inherits.
-use Rattle.std.proofs.Common.{◌≡◌, ℕ, ◌+◌, ◌-◌, ◌<◌, ◌≤◌, Bool, true, false, List, [], ◌∷◌, ◌++◌, Option, Some, None, length, map, drop, get_or, sym, ap, subst, ◌∙◌, arith, length-drop}
-use Rattle.std.specs.List.{slice_range}
+use Rattle.std.proofs.Common.{◌≡◌, ℕ, ◌+◌, ◌-◌, ◌<◌, ◌≤◌, Bool, true, false, List, [], ◌∷◌, ◌++◌, Option, Some, None, length, map, drop, get_or, sym, ap, subst, ◌∙◌, arith, length-drop, slice_range}
 use Rattle.std.proofs.lemmas.List.{map-append, take_all}
 use Rattle.rox_grammar.specs.declared.fault.Word.TheVariants.{Xml}
 use Rattle.rox_grammar.specs.FixedTexts.{word_text}

@@ -1,9 +1,7 @@
 -- The places of prefixes, as scopes are entered and left.
-use Rattle.std.proofs.Common.{◌≡◌, ◌≢◌, ◌==◌, ℕ, ◌&&◌, ◌||◌, not, filter, add-one, drop-cons, reverse, ◌+◌, ◌-◌, ◌≤◌, ◌<◌, take, get_or, bytes_eq, Bor, Bool, true, false, cond, List, [], ◌∷◌, ◌++◌, length, map, drop, refl, sym, ap, subst, ◌∙◌, arith, length-append, Option, Some, None}
+use Rattle.std.proofs.Common.{◌≡◌, ◌≢◌, ◌==◌, ℕ, ◌&&◌, ◌||◌, not, filter, add-one, drop-cons, reverse, ◌+◌, ◌-◌, ◌≤◌, ◌<◌, take, get_or, bytes_eq, Bor, Bool, true, false, cond, List, [], ◌∷◌, ◌++◌, length, map, drop, refl, sym, ap, subst, ◌∙◌, arith, length-append, Option, Some, None, option_map, option_to_list, eq-eqb, ne_eqb, nat_cmp}
 use Rattle.std.specs.List.{AllByRecursion, slice_range}
-use Rattle.std.specs.Option.{option_map, option_to_list}
 use Rattle.std.proofs.lemmas.List.{drop-append-le, append-nil, length-map, take_all, take_more, reverse-append}
-use Rattle.std.proofs.lemmas.Bool.{eq-eqb, ne_eqb}
 use Rattle.std.proofs.Math.ListN.{drop_of_length-le}
 use Rattle.rox_grammar.specs.Written.{NamespaceDecl}
 use Rattle.rox_grammar.specs.Tree.{same_prefix, is_declared, uri_of, is_xml}
@@ -13,7 +11,6 @@ use Rattle.rox_scopes.specs.NamespaceViews.{namespace_view}
 use Rattle.rox_scopes.specs.Scopes.{prefix_view, entries, ArePlaces, others}
 use Rattle.std.specs.BTreeMap.{BTreeMap, get_by}
 use Rattle.std.specs.Cmp.Lexicographic.{slice_cmp}
-use Rattle.std.specs.Ordering.{nat_cmp}
 use Rattle.rox_scopes.specs.Bindings.{option_joined, found_at, bound_place, place_in, bound_namespace, restored, IsBound, Stacked, AreBindingsOf, KeepsBindings, FindsBinding, is_innermost}
 use Rattle.rox_scopes.specs.declared.bindings.Binding.{Binding}
 use Rattle.rox_scopes.specs.declared.bindings.ShadowedBinding.{ShadowedBinding}

@@ -1,6 +1,5 @@
 -- The scope of a start tag, from that of its parent.
-use Rattle.std.proofs.Common.{◌≡◌, ℕ, ◌+◌, ◌-◌, ◌<◌, ◌≤◌, List, [], ◌∷◌, ◌++◌, length, take, drop, reverse, get_or, refl, sym, ap, subst, ◌∙◌, arith, length-append, length-drop, get_or-drop, append_assoc}
-use Rattle.std.specs.List.{slice_range}
+use Rattle.std.proofs.Common.{◌≡◌, ℕ, ◌+◌, ◌-◌, ◌<◌, ◌≤◌, List, [], ◌∷◌, ◌++◌, length, take, drop, reverse, get_or, refl, sym, ap, subst, ◌∙◌, arith, length-append, length-drop, get_or-drop, append_assoc, slice_range}
 use Rattle.std.proofs.Math.Seq.{drop-append_seam}
 use Rattle.std.proofs.lemmas.List.{append-nil, map-append, drop-append-le, take_all, take_more, get_or-reverse, length-reverse, reverse-reverse, get_or_append_left}
 use Rattle.rox_grammar.specs.Written.{NamespaceDecl}

@@ -1,6 +1,5 @@
 -- The bindings of prefixes, and of the default, in the innermost of some scopes, and how those of the scopes around are restored.
-use Rattle.std.specs.Prelude.{◌≡◌, ◌==◌, ◌&&◌, ℕ, ◌≤◌, ◌<◌, Bool, true, false, List, [], ◌∷◌, ◌++◌, Option, Some, None, Result, OnOk, ◌-◌, ◌⊎◌, take, length, map, drop, slice_index, if◌then◌else◌}
-use Rattle.std.specs.Option.{option_map}
+use Rattle.std.specs.Prelude.{◌≡◌, ◌==◌, ◌&&◌, ℕ, ◌≤◌, ◌<◌, Bool, true, false, List, [], ◌∷◌, ◌++◌, Option, Some, None, Result, OnOk, ◌-◌, ◌⊎◌, take, length, map, drop, slice_index, if◌then◌else◌, option_map}
 use Rattle.std.specs.Borrow.{Bor}
 use Rattle.std.specs.BTreeMap.{BTreeMap, get_by}
 use Rattle.std.specs.Cmp.Lexicographic.{slice_cmp}

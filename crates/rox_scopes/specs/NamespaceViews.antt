@@ -1,6 +1,5 @@
 -- A namespace as callers see it: the declaration that it comes from, and whether its URI is a slice of the input.
-use Rattle.std.specs.Prelude.{Bool}
-use Rattle.std.specs.Option.{option_map}
+use Rattle.std.specs.Prelude.{Bool, option_map}
 use Rattle.rox_grammar.specs.Written.{NamespaceDecl}
 use Rattle.rox_storage.specs.Storage.{is_borrowed, storage_bytes}
 use Rattle.rox_scopes.specs.declared.namespace.Namespace.{Namespace}

@@ -1,8 +1,7 @@
 -- A run that is a line end and bytes that stand for themselves.
-use Rattle.std.proofs.Common.{◌≡◌, ◌<◌, ◌≤◌, ◌==◌, ◌||◌, ◌+◌, ◌-◌, zero, suc, ℕ, Bool, true, false, List, [], ◌∷◌, Ok, Err, get_or, take, drop, length, slice_range, if◌then◌else◌, refl, sym, ap, ◌∙◌, arith, inl, inr, append-nil, subst}
+use Rattle.std.proofs.Common.{◌≡◌, ◌<◌, ◌≤◌, ◌==◌, ◌||◌, ◌+◌, ◌-◌, zero, suc, ℕ, Bool, true, false, List, [], ◌∷◌, Ok, Err, get_or, take, drop, length, slice_range, if◌then◌else◌, refl, sym, ap, ◌∙◌, arith, inl, inr, append-nil, subst, lt-ltb, le-ltb}
 use Rattle.std.specs.List.{position_or_len}
 use Rattle.std.proofs.lemmas.Bool.Decides.{eqb_tells, leb_tells}
-use Rattle.std.proofs.lemmas.Bool.{lt-ltb, le-ltb}
 use Rattle.std.proofs.lemmas.List.{get_or-take, drop_more, length-take-le}
 use Rattle.rox_grammar.specs.declared.fault.Fault.{Fault}
 use Rattle.rox_grammar.specs.Search.{byte_from}

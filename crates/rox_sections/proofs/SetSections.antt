@@ -1,6 +1,5 @@
 -- CDATA sections whose text is of the bytes of a set.
-use Rattle.std.proofs.Common.{◌≡◌, ◌+◌, ◌-◌, ◌<◌, ◌≤◌, ◌==◌, ◌∷◌, ℕ, true, false, List, Ok, length, drop, get_or, slice_range, refl, sym, ap, ◌∙◌, arith, inl, inr, length-drop, get_or-drop}
-use Rattle.std.specs.Str.{IsUtf8, IsCharBoundary}
+use Rattle.std.proofs.Common.{◌≡◌, ◌+◌, ◌-◌, ◌<◌, ◌≤◌, ◌==◌, ◌∷◌, ℕ, true, false, List, Ok, length, drop, get_or, slice_range, refl, sym, ap, ◌∙◌, arith, inl, inr, length-drop, get_or-drop, IsUtf8, IsCharBoundary}
 use Rattle.std.proofs.lemmas.Bool.{cases_lt, le-ltb}
 use Rattle.std.proofs.lemmas.Bool.Decides.{nat_tests}
 use Rattle.std.proofs.lemmas.List.{drop_more, drop-drop, get_or_past, get_or-take}

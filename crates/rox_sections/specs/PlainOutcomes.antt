@@ -1,6 +1,5 @@
 -- What the fast path requires, and how it changes the cursor and the builder. It reads a construct only if that is plain.
-use Rattle.std.specs.Prelude.{◌≡◌, ◌≢◌, ℕ, ◌+◌, ◌<◌, ◌≤◌, ◌^◌, true, false, Bool, List, IfOk, OnOk, Result, Ok, length, slice_index, slice_range, vec_len}
-use Rattle.std.specs.Str.{IsCharBoundary}
+use Rattle.std.specs.Prelude.{◌≡◌, ◌≢◌, ℕ, ◌+◌, ◌<◌, ◌≤◌, ◌^◌, true, false, Bool, List, IfOk, OnOk, Result, Ok, length, slice_index, slice_range, vec_len, IsCharBoundary}
 use Rattle.std.specs.declared.alloc.AllocError.{AllocError}
 use Rattle.rox_grammar.specs.Chars.{is_part_char}
 use Rattle.rox_grammar.specs.FixedTexts.{word_text}

@@ -1,6 +1,5 @@
 -- The CDATA sections that the fast path reads.
-use Rattle.std.specs.Prelude.{◌≡◌, ◌==◌, ◌&&◌, ℕ, Bool, true, not, List, Option, Result, Ok, IfOk, IfSome}
-use Rattle.std.specs.Str.{IsCharBoundary}
+use Rattle.std.specs.Prelude.{◌≡◌, ◌==◌, ◌&&◌, ℕ, Bool, true, not, List, Option, Result, Ok, IfOk, IfSome, IsCharBoundary}
 use Rattle.std.specs.declared.alloc.AllocError.{AllocError}
 use Rattle.rox_bytes.specs.ByteSets.{is_char_byte}
 use Rattle.rox_reading.specs.Markup.{cdata_at}

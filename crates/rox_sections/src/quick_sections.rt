@@ -1,8 +1,7 @@
 //! Plain constructs with delimiters, read by the fast path: comments, CDATA sections and processing instructions (XML 1.0 sections 2.5,
 //! 2.6, 2.7). Each is read out of line. The general step reads one that is not plain, or finds no room, from its first byte.
 
-ghost use Rattle.std.specs.Prelude.{◌≡◌, true, IfSome};
-ghost use Rattle.std.specs.String.{string_bytes};
+ghost use Rattle.std.specs.Prelude.{◌≡◌, true, IfSome, string_bytes};
 ghost use Rattle.rox_grammar.specs.FixedTexts.{word_text};
 ghost use Rattle.rox_grammar.specs.Search.{stands};
 ghost use Rattle.rox_grammar.specs.declared.fault.Word.TheVariants as word;

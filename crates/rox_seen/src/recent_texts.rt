@@ -2,9 +2,8 @@
 //! shares its storage if it equals the last one of its length. A made value shares its storage if it equals the last one of its
 //! place (see `place_of`), until most of the values have differed (see `MOST_MISSED`).
 
-ghost use Rattle.std.specs.Prelude.{◌≡◌, ◌<◌, vec_len, OnOk, IfOk, IfSome};
+ghost use Rattle.std.specs.Prelude.{◌≡◌, ◌<◌, vec_len, OnOk, IfOk, IfSome, string_bytes};
 ghost use Rattle.std.specs.Rc.{rc_str_bytes};
-ghost use Rattle.std.specs.String.{string_bytes};
 ghost use Rattle.rox_storage.specs.Storage.{IsOwnText};
 
 use rox_compare::compare::same_line_end;

@@ -1,8 +1,5 @@
 -- Names of declarations, which begin with `xmlns`.
-use Rattle.std.proofs.Common.{◌≡◌, ℕ, zero, suc, ◌+◌, ◌-◌, ◌<◌, true, false, List, Option, Ok, get_or, slice_index, refl, sym, ap, ◌∙◌, arith}
-use Rattle.std.specs.Option.{IfSome}
-use Rattle.std.specs.Str.{IsUtf8, IsCharBoundary}
-use Rattle.std.proofs.lemmas.List.{get_or-drop}
+use Rattle.std.proofs.Common.{◌≡◌, ℕ, zero, suc, ◌+◌, ◌-◌, ◌<◌, true, false, List, Option, Ok, get_or, slice_index, refl, sym, ap, ◌∙◌, arith, IfSome, IsUtf8, IsCharBoundary, get_or-drop}
 use Rattle.rox_grammar.specs.Chars.{is_name_char, is_name_start, is_part_char}
 use Rattle.rox_grammar.specs.FixedTexts.{word_text}
 use Rattle.rox_grammar.specs.Written.{Name, is_namespace_decl}

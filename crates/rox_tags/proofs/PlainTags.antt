@@ -1,8 +1,7 @@
 -- Start tags that are read at one look.
-use Rattle.std.proofs.Common.{◌≡◌, ◌≢◌, ℕ, ◌+◌, ◌<◌, true, false, List, [], ◌∷◌, Option, length, map, slice_index, refl, sym, ap, ◌∙◌, arith, Ok, bytes_eq, Some}
+use Rattle.std.proofs.Common.{◌≡◌, ◌≢◌, ℕ, ◌+◌, ◌<◌, true, false, List, [], ◌∷◌, Option, length, map, slice_index, refl, sym, ap, ◌∙◌, arith, Ok, bytes_eq, Some, option_map, is_some}
 use Rattle.std.proofs.lemmas.Bool.{lt-leb}
 use Rattle.rox_scopes.specs.declared.namespace.Namespace.{Namespace}
-use Rattle.std.specs.Option.{option_map, is_some}
 use Rattle.rox_grammar.specs.WellNamed.{may_name}
 use Rattle.rox_scopes.proofs.Pairs.{declared_some}
 use Rattle.rox_grammar.specs.Tree.{element_namespace}

@@ -1,8 +1,6 @@
 -- The attributes and declarations of a tag that the fast path reads, one after another.
-use Rattle.std.proofs.Common.{◌≡◌, ℕ, suc, ◌+◌, ◌-◌, ◌<◌, ◌≤◌, ◌||◌, ◌==◌, not, Bool, true, false, if◌then◌else◌, List, [], ◌∷◌, ◌++◌, Option, Some, None, Result, length, map, drop, slice_index, slice_range, refl, sym, ap, subst, ◌∙◌, arith, Ok, Err, append_assoc, nat_lt, length-append}
+use Rattle.std.proofs.Common.{◌≡◌, ℕ, suc, ◌+◌, ◌-◌, ◌<◌, ◌≤◌, ◌||◌, ◌==◌, not, Bool, true, false, if◌then◌else◌, List, [], ◌∷◌, ◌++◌, Option, Some, None, Result, length, map, drop, slice_index, slice_range, refl, sym, ap, subst, ◌∙◌, arith, Ok, Err, append_assoc, nat_lt, length-append, Bor, IfSome}
 use Rattle.std.specs.List.{AllByRecursion, list_any}
-use Rattle.std.specs.Borrow.{Bor}
-use Rattle.std.specs.Option.{IfSome}
 use Rattle.std.proofs.lemmas.Bool.{lt-leb, or_left}
 use Rattle.std.proofs.lemmas.List.{append-nil, length-map, map-append, take_all}
 use Rattle.std.proofs.lemmas.List.Elements.{filter-append}

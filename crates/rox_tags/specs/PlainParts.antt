@@ -1,6 +1,5 @@
 -- What the parts of a plain tag require, and what is read of them.
-use Rattle.std.specs.Prelude.{◌≡◌, ℕ, ◌+◌, ◌<◌, ◌≤◌, ◌^◌, true, false, List, Option, length, slice_index, IfSome, [], bytes_eq}
-use Rattle.std.specs.Str.{IsCharBoundary}
+use Rattle.std.specs.Prelude.{◌≡◌, ℕ, ◌+◌, ◌<◌, ◌≤◌, ◌^◌, true, false, List, Option, length, slice_index, IfSome, [], bytes_eq, IsCharBoundary}
 use Rattle.rox_grammar.specs.Chars.{is_part_char, is_space}
 use Rattle.rox_grammar.specs.Runs.{run_end}
 use Rattle.rox_grammar.specs.Written.{Name}

@@ -1,6 +1,5 @@
 -- Start tags that the fast path reads: their attributes have values that refer to no declared entity.
-use Rattle.std.specs.Prelude.{◌≡◌, ℕ, ◌+◌, ◌<◌, ◌≤◌, ◌^◌, false, List, ◌++◌, Option, Ok, length, map, slice_index, IfSome}
-use Rattle.std.specs.Str.{IsCharBoundary}
+use Rattle.std.specs.Prelude.{◌≡◌, ℕ, ◌+◌, ◌<◌, ◌≤◌, ◌^◌, false, List, ◌++◌, Option, Ok, length, map, slice_index, IfSome, IsCharBoundary}
 use Rattle.rox_grammar.specs.declared.fault.Fault.{Fault}
 use Rattle.rox_grammar.specs.Written.{NamespaceDecl, Tag}
 use Rattle.rox_reading.specs.Tags.{Values, tag_at}

@@ -1,8 +1,7 @@
 -- The attributes and declarations of a tag that the fast path reads, and what the tables hold of them.
-use Rattle.std.specs.Prelude.{◌≡◌, ℕ, ◌+◌, ◌<◌, ◌≤◌, ◌^◌, Bool, true, false, List, [], ◌∷◌, ◌++◌, Option, Ok, length, map, slice_range, IfSome}
+use Rattle.std.specs.Prelude.{◌≡◌, ℕ, ◌+◌, ◌<◌, ◌≤◌, ◌^◌, Bool, true, false, List, [], ◌∷◌, ◌++◌, Option, Ok, length, map, slice_range, IfSome, IsCharBoundary}
 use Rattle.std.specs.Borrow.{Bor}
 use Rattle.std.specs.List.{AllByRecursion}
-use Rattle.std.specs.Str.{IsCharBoundary}
 use Rattle.rox_grammar.specs.declared.fault.Fault.{Fault}
 use Rattle.rox_grammar.specs.declared.fault.Word.TheVariants.{Xmlns}
 use Rattle.rox_grammar.specs.Document.{most_attributes}

@@ -1,8 +1,7 @@
 //! Declarations of the tag of a root element, by the quick reader: those that are plain, while they are few. Its scope lists them
 //! (Namespaces in XML 1.0 section 3).
 
-ghost use Rattle.std.specs.Prelude.{◌≡◌, IfSome, length, true};
-ghost use Rattle.std.specs.Str.{IsCharBoundary};
+ghost use Rattle.std.specs.Prelude.{◌≡◌, IfSome, length, true, IsCharBoundary};
 ghost use Rattle.rox_tags.specs.TagAttributes.{DeclaresOwn, HasXmlns, IsDeclaredName, IsNearDeclaration, IsPlainDeclaration, ListsOwn, MayDeclareHere, MayPutDeclaration, PutsDeclaration};
 
 use rox_bytes::byte_set::{ValueByte, skip_set};

@@ -1,7 +1,6 @@
 -- How a reading that asks went.
-use Rattle.std.proofs.Common.{◌≡◌, List, [], arith}
+use Rattle.std.proofs.Common.{◌≡◌, List, [], arith, append-nil}
 use Rattle.std.specs.Prelude.{Result, Ok}
-use Rattle.std.proofs.lemmas.List.{append-nil}
 use Rattle.rox_grammar.specs.declared.fault.Fault.{Fault}
 use Rattle.rox_grammar.specs.Doctype.{Asked}
 use Rattle.rox_reading.specs.Refusals.{Refusal, lifted}

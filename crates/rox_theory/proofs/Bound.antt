@@ -1,6 +1,5 @@
 -- How large a document can be: its values together, and its nodes and attributes together.
-use Rattle.std.proofs.Common.{arith, ◌∙◌, subst, sym, ap}
-use Rattle.std.proofs.lemmas.List.{length-append}
+use Rattle.std.proofs.Common.{arith, ◌∙◌, subst, sym, ap, length-append}
 use Rattle.std.proofs.lemmas.List.Recursion.{is_count_by}
 use Rattle.std.proofs.Math.Nat.{mul_comm, mul_assoc}
 use Rattle.std.specs.Prelude.{◌≡◌, ◌==◌, ℕ, zero, suc, ◌+◌, ◌*◌, ◌≤◌, not, Bool, true, false, List, [], ◌∷◌, length, drop, count_by, if◌then◌else◌, refl}

@@ -1,12 +1,9 @@
 -- What is read of characters and references to them, in a run or a value, is a text of Chars.
-use Rattle.std.proofs.Common.{◌≡◌, ◌≢◌, ℕ, suc, ◌+◌, ◌<◌, ◌≤◌, ◌==◌, Bool, true, false, ◌||◌, List, [], ◌∷◌, ◌++◌, length, get_or, refl, sym, ap, ◌∙◌, subst, arith, inl, inr, ◌⊎◌, append_assoc}
+use Rattle.std.proofs.Common.{◌≡◌, ◌≢◌, ℕ, suc, ◌+◌, ◌<◌, ◌≤◌, ◌==◌, Bool, true, false, ◌||◌, List, [], ◌∷◌, ◌++◌, length, get_or, refl, sym, ap, ◌∙◌, subst, arith, inl, inr, ◌⊎◌, append_assoc, encode_utf8, chars, IsUtf8, IsCharBoundary, append-nil}
 use Rattle.std.specs.Prelude.{Some}
-use Rattle.std.specs.Char.{encode_utf8}
 use Rattle.std.specs.List.{list_all}
-use Rattle.std.specs.Str.{chars, IsUtf8, IsCharBoundary}
 use Rattle.std.proofs.Math.Utf8.{encodes, scalar, scalars}
 use Rattle.std.proofs.lemmas.Bool.{and_parts, ne_eqb, cond_both, cases_eq}
-use Rattle.std.proofs.lemmas.List.{append-nil}
 use Rattle.std.proofs.lemmas.Str.{encodes-chars, scalars-chars, encode_ascii, inside_one}
 use Rattle.rox_grammar.specs.Chars.{is_char, is_name_char, is_part_char}
 use Rattle.rox_grammar.specs.CharText.{IsCharText}

@@ -1,8 +1,6 @@
 -- Content that a reference opens, by the number of texts that may still be open, over the agreement of single steps.
-use Rattle.std.proofs.Common.{◌≡◌, ℕ, zero, suc, ◌+◌, ◌<◌, ◌≤◌, Bool, false, List, length, nat_lt, refl, sym, ap, ◌∙◌, subst, arith, lt-ltb, ltb-true}
+use Rattle.std.proofs.Common.{◌≡◌, ℕ, zero, suc, ◌+◌, ◌<◌, ◌≤◌, Bool, false, List, length, nat_lt, refl, sym, ap, ◌∙◌, subst, arith, lt-ltb, ltb-true, IsUtf8, eq-eqb, ltb-false, le-ltb}
 use Rattle.std.specs.Prelude.{Some, Ok}
-use Rattle.std.specs.Str.{IsUtf8}
-use Rattle.std.proofs.lemmas.Bool.{eq-eqb, ltb-false, le-ltb}
 use Rattle.rox_grammar.specs.Forest.{Forest, join}
 use Rattle.rox_grammar.specs.Written.{Item}
 use Rattle.rox_grammar.specs.Content.{Inclusion}

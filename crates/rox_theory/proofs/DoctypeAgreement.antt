@@ -1,9 +1,7 @@
 -- A document type declaration is read as the grammar says, its entities are text, and what was asked for them is there.
-use Rattle.std.proofs.Common.{◌≡◌, ℕ, zero, suc, ◌+◌, ◌<◌, ◌≤◌, ◌⊎◌, ◌==◌, Bool, true, false, nat_le, List, [], ◌∷◌, ◌++◌, length, take, Option, Ok, Err, refl, sym, ap, ◌∙◌, subst, arith, inl, inr}
+use Rattle.std.proofs.Common.{◌≡◌, ℕ, zero, suc, ◌+◌, ◌<◌, ◌≤◌, ◌⊎◌, ◌==◌, Bool, true, false, nat_le, List, [], ◌∷◌, ◌++◌, length, take, Option, Ok, Err, refl, sym, ap, ◌∙◌, subst, arith, inl, inr, IsUtf8, IsCharBoundary, append-nil, get_or-take, length-take-le}
 use Rattle.std.specs.Prelude.{bytes_eq}
-use Rattle.std.specs.Str.{IsUtf8, IsCharBoundary}
 use Rattle.std.proofs.lemmas.Str.{IsUtf8-take, IsUtf8-drop, IsCharBoundary-start, IsCharBoundary-after_ascii}
-use Rattle.std.proofs.lemmas.List.{append-nil, get_or-take, length-take-le}
 use Rattle.std.proofs.lemmas.Bool.{cond_both, leb-false, eqb-true, false≢true}
 use Rattle.rox_grammar.specs.declared.fault.Word.TheVariants as word
 use Rattle.rox_grammar.specs.Chars.{is_space}

@@ -1,7 +1,6 @@
 -- Declarations of entities: what is read is there, with what is asked for it, and what is there is read, whatever replies follow.
-use Rattle.std.proofs.Common.{◌≡◌, ℕ, ◌+◌, ◌<◌, ◌≤◌, ◌⊎◌, Bool, true, cond, List, [], ◌++◌, length, take, drop, Option, Result, refl, sym, ap, subst, arith, inl, inr}
+use Rattle.std.proofs.Common.{◌≡◌, ℕ, ◌+◌, ◌<◌, ◌≤◌, ◌⊎◌, Bool, true, cond, List, [], ◌++◌, length, take, drop, Option, Result, refl, sym, ap, subst, arith, inl, inr, IsUtf8, IsCharBoundary}
 use Rattle.std.specs.Prelude.{Ok, Err, Some, None, IfSome}
-use Rattle.std.specs.Str.{IsUtf8, IsCharBoundary}
 use Rattle.rox_grammar.specs.declared.fault.Fault.{Fault}
 use Rattle.rox_grammar.specs.declared.fault.Word.TheVariants as word
 use Rattle.rox_grammar.specs.Chars.{is_space}

@@ -1,6 +1,5 @@
 -- One more item without children, and its limits.
-use Rattle.std.proofs.Common.{◌≡◌, ℕ, ◌+◌, ◌≤◌, nat_le, [], length, Ok, refl, sym, subst, arith, le-leb, leb-true, append_assoc}
-use Rattle.std.proofs.lemmas.List.{append-nil}
+use Rattle.std.proofs.Common.{◌≡◌, ℕ, ◌+◌, ◌≤◌, nat_le, [], length, Ok, refl, sym, subst, arith, le-leb, leb-true, append_assoc, append-nil}
 use Rattle.rox_grammar.specs.Forest.{Forest, join}
 use Rattle.rox_grammar.specs.Written.{Item, leaf}
 use Rattle.rox_grammar.specs.Tree.{scope_in, listed}

@@ -1,7 +1,6 @@
 -- How long a replacement text can be: it lies in the text, or in an answer.
-use Rattle.std.proofs.Common.{◌+◌, ◌-◌, ◌≤◌, ℕ, Bool, List, [], ◌∷◌, ◌++◌, length, arith}
+use Rattle.std.proofs.Common.{◌+◌, ◌-◌, ◌≤◌, ℕ, Bool, List, [], ◌∷◌, ◌++◌, length, arith, length-drop, length-take}
 use Rattle.std.specs.Prelude.{max, Some, None, IfSome, Option}
-use Rattle.std.proofs.lemmas.List.{length-drop, length-take}
 use Rattle.rox_grammar.specs.Forest.{Forest}
 use Rattle.rox_grammar.specs.Written.{Item}
 use Rattle.rox_grammar.specs.Entities.{Replacement, Entity}

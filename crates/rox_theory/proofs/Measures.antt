@@ -1,7 +1,6 @@
 -- Two measures of items: the bytes of their values, and how many nodes and attributes there are. Of neither there is more
 -- than the bytes of what is written.
-use Rattle.std.proofs.Common.{arith}
-use Rattle.std.proofs.lemmas.List.{length-append}
+use Rattle.std.proofs.Common.{arith, length-append}
 use Rattle.std.specs.Prelude.{◌≡◌, ℕ, ◌+◌, ◌≤◌, not, Bool, true, false, List, [], ◌∷◌, Option, length, if◌then◌else◌, refl}
 use Rattle.rox_grammar.specs.Forest.{Forest, Nil, Cons, join, size}
 use Rattle.rox_grammar.specs.Written.{Item, Element, Text, Comment, PI, Attribute, Tag, leaf, merge, glue, is_namespace_decl, plain_attributes_of}

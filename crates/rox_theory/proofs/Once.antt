@@ -1,7 +1,6 @@
 -- At most one element is at a place, whatever the limits are.
-use Rattle.std.proofs.Common.{◌≡◌, ℕ, zero, suc, ◌+◌, ◌<◌, ◌==◌, Bool, true, false, not, List, length, Ok, refl, sym, ap, ◌∙◌, subst, arith, true≢false}
+use Rattle.std.proofs.Common.{◌≡◌, ℕ, zero, suc, ◌+◌, ◌<◌, ◌==◌, Bool, true, false, not, List, length, Ok, refl, sym, ap, ◌∙◌, subst, arith, true≢false, IsUtf8}
 use Rattle.std.specs.Prelude.{Some, Option}
-use Rattle.std.specs.Str.{IsUtf8}
 use Rattle.std.specs.List.{list_any}
 use Rattle.rox_grammar.specs.Forest.{Forest, Nil, join}
 use Rattle.rox_grammar.specs.Written.{Tag, Item, Text, Comment, PI}

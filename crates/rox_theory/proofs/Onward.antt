@@ -1,10 +1,8 @@
 -- Places go forward, and no character is longer than what it is written by.
-use Rattle.std.proofs.Common.{arith, ap}
-use Rattle.std.proofs.lemmas.List.{length-append}
+use Rattle.std.proofs.Common.{arith, ap, length-append, encode_utf8}
 use Rattle.std.proofs.lemmas.Str.{length-encode}
 use Rattle.std.proofs.lemmas.Bool.{cond_both}
 use Rattle.std.specs.Prelude.{◌≡◌, ℕ, zero, suc, ◌+◌, ◌-◌, ◌≤◌, Bool, true, false, List, [], ◌∷◌, Option, Some, None, length, take, drop, refl}
-use Rattle.std.specs.Char.{encode_utf8}
 use Rattle.rox_grammar.specs.Written.{Item}
 use Rattle.rox_grammar.specs.Chars.{is_name_char}
 use Rattle.rox_grammar.specs.declared.fault.Word.TheVariants as word

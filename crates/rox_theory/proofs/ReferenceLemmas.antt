@@ -1,7 +1,6 @@
 -- References to characters: what is read is there, and what is there is read.
-use Rattle.std.proofs.Common.{◌≡◌, ◌≢◌, ℕ, ◌+◌, ◌-◌, ◌^◌, ◌<◌, ◌≤◌, Bool, true, false, eqb, leb, List, length, get_or, drop, refl, sym, ap, ◌∙◌, subst, arith, inl, inr, get_or-drop}
+use Rattle.std.proofs.Common.{◌≡◌, ◌≢◌, ℕ, ◌+◌, ◌-◌, ◌^◌, ◌<◌, ◌≤◌, Bool, true, false, eqb, leb, List, length, get_or, drop, refl, sym, ap, ◌∙◌, subst, arith, inl, inr, get_or-drop, IsUtf8}
 use Rattle.std.specs.Prelude.{Ok, Option, Some, None}
-use Rattle.std.specs.Str.{IsUtf8}
 use Rattle.std.proofs.lemmas.Str.{IsCharBoundary-after_ascii}
 use Rattle.std.proofs.lemmas.List.Sums.{prefix_len_passes}
 use Rattle.std.proofs.lemmas.Bool.{eqb-true, eqb-false, eq-eqb, ne_eqb, leb-false, leb-true, and_parts, cases_lt, cases_eq, false≢true}

@@ -1,6 +1,5 @@
 -- At most one start tag is at a place, whatever the limits are, where as many texts may be opened.
-use Rattle.std.proofs.Common.{◌≡◌, ℕ, ◌<◌, Bool, cond, List, Ok, refl, sym, ap, subst, arith}
-use Rattle.std.specs.Str.{IsUtf8}
+use Rattle.std.proofs.Common.{◌≡◌, ℕ, ◌<◌, Bool, cond, List, Ok, refl, sym, ap, subst, arith, IsUtf8}
 use Rattle.rox_grammar.specs.Written.{Attribute, Tag}
 use Rattle.rox_grammar.specs.Names.{spaces_end}
 use Rattle.rox_grammar.specs.Content.{Inclusion, IsAttribute, Attributes, no_more, one_more, TagEnds, IsTag, start_tag}

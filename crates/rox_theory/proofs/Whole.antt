@@ -1,8 +1,6 @@
 -- Reading a whole text is its grammar.
-use Rattle.std.proofs.Common.{◌≡◌, ℕ, ◌+◌, ◌-◌, ◌≤◌, ◌==◌, Bool, true, false, nat_lt, List, [], ◌++◌, length, Ok, refl, sym, ap, ◌∙◌, subst, arith, ltb-false, le-ltb, eqb-true, eq-eqb}
+use Rattle.std.proofs.Common.{◌≡◌, ℕ, ◌+◌, ◌-◌, ◌≤◌, ◌==◌, Bool, true, false, nat_lt, List, [], ◌++◌, length, Ok, refl, sym, ap, ◌∙◌, subst, arith, ltb-false, le-ltb, eqb-true, eq-eqb, IsUtf8, append-nil}
 use Rattle.std.specs.Prelude.{Result, Err}
-use Rattle.std.specs.Str.{IsUtf8}
-use Rattle.std.proofs.lemmas.List.{append-nil}
 use Rattle.std.proofs.lemmas.Bool.{false≢true}
 use Rattle.rox_grammar.specs.declared.fault.Word.TheVariants as word
 use Rattle.rox_grammar.specs.Forest.{Forest, Nil, join, size}

@@ -1,6 +1,5 @@
 -- The nodes of a document, and the values of their attributes.
-use Rattle.std.specs.Prelude.{ℕ, List, Option, None}
-use Rattle.std.specs.Option.{option_map}
+use Rattle.std.specs.Prelude.{ℕ, List, Option, None, option_map}
 use Rattle.roxmltree.specs.Tree as tree
 use Rattle.roxmltree.specs.DocumentView.{DocumentView}
 use Rattle.roxmltree.specs.ExpandedNames.{named}

@@ -1,6 +1,5 @@
 -- Records.
-use Rattle.std.specs.Prelude.{ℕ, Bool, ◌||◌, List, ◌++◌, Option, Some, string_bytes, codes, decimal}
-use Rattle.std.specs.Option.{is_none}
+use Rattle.std.specs.Prelude.{ℕ, Bool, ◌||◌, List, ◌++◌, Option, Some, string_bytes, codes, decimal, is_none}
 use Rattle.roxmltree.specs.DocumentView.{DocumentView}
 use Rattle.rox_uses.specs.Nodes.{item_at, value_at}
 use Rattle.rox_uses.specs.declared.records.Record.{Record}

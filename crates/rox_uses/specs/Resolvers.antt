@@ -1,7 +1,6 @@
 -- The replies to requests for external entities by texts that were read before, each with its name.
-use Rattle.std.specs.Prelude.{◌≡◌, ℕ, List, Option, Some, None, Ok, Err, bytes_eq, option_map}
+use Rattle.std.specs.Prelude.{◌≡◌, ℕ, List, Option, Some, None, Ok, Err, bytes_eq, option_map, find}
 use Rattle.std.specs.Borrow.{Bor}
-use Rattle.std.specs.List.{find}
 use Rattle.roxmltree.specs.Doctype.{Request}
 use Rattle.roxmltree.specs.Requests.{Reply}
 

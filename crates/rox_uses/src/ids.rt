@@ -1,8 +1,6 @@
 //! Elements found by their ids.
 
-ghost use Rattle.std.specs.Prelude.{◌≡◌};
-ghost use Rattle.std.specs.Option.{option_map};
-ghost use Rattle.std.specs.List.{find};
+ghost use Rattle.std.specs.Prelude.{◌≡◌, option_map, find};
 ghost use Rattle.roxmltree.specs.NodeRef.{node_ref};
 ghost use Rattle.rox_uses.specs.Ids.{has_id};
 ghost use Rattle.rox_uses.specs.Nodes.{nodes_of};

@@ -13,9 +13,7 @@
 //! assert!(rt; resolve(document.root(), "T") == Some("T".into()));
 //! ```
 
-ghost use Rattle.std.specs.Prelude.{◌≡◌, Some, None};
-ghost use Rattle.std.specs.Option.{option_map};
-ghost use Rattle.std.specs.List.{Contains};
+ghost use Rattle.std.specs.Prelude.{◌≡◌, Some, None, option_map, Contains};
 ghost use Rattle.roxmltree.specs.Tree.{uri_of};
 ghost use Rattle.roxmltree.specs.ExpandedNames.{expanded};
 ghost use Rattle.roxmltree.specs.NodeParts.{listed_of};

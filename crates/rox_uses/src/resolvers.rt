@@ -1,7 +1,6 @@
 //! Resolvers of external entities (XML 1.0 section 4.2.2).
 
-ghost use Rattle.std.specs.Prelude.{◌≡◌, ◌≢◌, Some, true, List, IfOk, IfErr};
-ghost use Rattle.std.specs.Option.{option_map};
+ghost use Rattle.std.specs.Prelude.{◌≡◌, ◌≢◌, Some, true, List, IfOk, IfErr, option_map};
 ghost use Rattle.roxmltree.specs.Doctype.{Asked};
 ghost use Rattle.roxmltree.specs.Document.{IsTreeOf};
 ghost use Rattle.roxmltree.specs.FirstError.{IsFirst};

@@ -18,9 +18,7 @@
 //! assert!(rt; source_of(document.root()) == Some(text));
 //! ```
 
-ghost use Rattle.std.specs.Prelude.{◌≡◌, ◌+◌, ◌^◌, ◌<◌, ◌≤◌, true, false, None, IfSome, IsNone, filter, slice_range};
-ghost use Rattle.std.specs.Option.{option_map};
-ghost use Rattle.std.specs.Str.{IsCharBoundary};
+ghost use Rattle.std.specs.Prelude.{◌≡◌, ◌+◌, ◌^◌, ◌<◌, ◌≤◌, true, false, None, IfSome, IsNone, filter, slice_range, option_map, IsCharBoundary};
 ghost use Rattle.std.specs.List.{find, last_or};
 ghost use Rattle.roxmltree.specs.NodeParts.{is_element_node, start_of, end_of};
 ghost use Rattle.roxmltree.specs.NodeRef.{node_ref, document_of, id_of, item_of};

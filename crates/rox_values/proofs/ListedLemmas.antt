@@ -1,7 +1,6 @@
 -- What a list has of a map stays so where the map gets another entity, and the list one that the map has.
-use Rattle.std.proofs.Common.{◌≡◌, ◌<◌, ℕ, zero, suc, Bool, false, cond, List, [], ◌∷◌, ◌++◌, Option, Some, Result, length, get_or, bytes_eq, arith}
+use Rattle.std.proofs.Common.{◌≡◌, ◌<◌, ℕ, zero, suc, Bool, false, cond, List, [], ◌∷◌, ◌++◌, Option, Some, Result, length, get_or, bytes_eq, arith, Bor}
 use Rattle.std.specs.Prelude.{OnOk, OnErr, is_some, if◌then◌else◌}
-use Rattle.std.specs.Borrow.{Bor}
 use Rattle.std.specs.BTreeMap.{BTreeMap, get_by}
 use Rattle.std.proofs.lemmas.Slice.Eq.{bytes_eq-Decides}
 use Rattle.rox_scan.specs.declared.cursor.Cursor.{Cursor}

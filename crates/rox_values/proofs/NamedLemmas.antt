@@ -1,9 +1,7 @@
 -- References to the predefined names.
-use Rattle.std.proofs.Common.{◌≡◌, ℕ, ◌+◌, ◌-◌, ◌<◌, ◌≤◌, ◌&&◌, Bool, true, false, List, length, Some, slice_index, slice_range, drop, nat_lt, codes, bytes_eq, inl, inr, refl, sym, ap, ◌∙◌, arith, Ok, get_or-drop}
+use Rattle.std.proofs.Common.{◌≡◌, ℕ, ◌+◌, ◌-◌, ◌<◌, ◌≤◌, ◌&&◌, Bool, true, false, List, length, Some, slice_index, slice_range, drop, nat_lt, codes, bytes_eq, inl, inr, refl, sym, ap, ◌∙◌, arith, Ok, get_or-drop, IsUtf8, IsCharBoundary, get_or-take}
 use Rattle.std.specs.List.{list_all}
-use Rattle.std.specs.Str.{IsUtf8, IsCharBoundary}
 use Rattle.std.proofs.lemmas.Bool.{and_parts, cases_Bool, ltb-true}
-use Rattle.std.proofs.lemmas.List.{get_or-take}
 use Rattle.std.proofs.lemmas.List.Folds.{list_all_at}
 use Rattle.std.proofs.lemmas.Slice.Eq.{bytes_eq-Decides}
 use Rattle.std.proofs.lemmas.Str.{IsCharBoundary-after_ascii}

@@ -1,6 +1,5 @@
 -- A replacement text that gives itself in a value.
-use Rattle.std.proofs.Common.{◌≡◌, ◌-◌, ℕ, true, false, List, [], ◌++◌, Ok, length, drop, slice_index, slice_range, sym, refl, ◌∙◌, inl, inr, arith, append-nil, le-ltb}
-use Rattle.std.specs.Str.{IsCharBoundary, IsUtf8}
+use Rattle.std.proofs.Common.{◌≡◌, ◌-◌, ℕ, true, false, List, [], ◌++◌, Ok, length, drop, slice_index, slice_range, sym, refl, ◌∙◌, inl, inr, arith, append-nil, le-ltb, IsCharBoundary, IsUtf8}
 use Rattle.std.proofs.lemmas.Bool.{cases_lt}
 use Rattle.std.proofs.lemmas.Bool.Decides.{nat_tests}
 use Rattle.std.proofs.lemmas.List.{get_or_past, length-drop, take_all}

@@ -1,6 +1,5 @@
 -- The entities that the code holds, and how it reads a text, compared with how a text is read.
-use Rattle.std.specs.Prelude.{◌≡◌, ◌-◌, ◌<◌, ℕ, zero, suc, Bool, false, List, Option, Result, Ok, Err, IfOk}
-use Rattle.std.specs.Option.{option_map}
+use Rattle.std.specs.Prelude.{◌≡◌, ◌-◌, ◌<◌, ℕ, zero, suc, Bool, false, List, Option, Result, Ok, Err, IfOk, option_map}
 use Rattle.std.specs.BTreeMap.{get_by}
 use Rattle.rox_grammar.specs.declared.fault.Fault.{Fault}
 use Rattle.rox_grammar.specs.declared.fault.Fault.TheVariants as fault

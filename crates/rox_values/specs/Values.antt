@@ -1,8 +1,7 @@
 -- How the texts and references in the code relate to what is read.
-use Rattle.std.specs.Prelude.{◌≡◌, ◌≢◌, ◌<◌, ◌≤◌, ◌-◌, ◌^◌, ℕ, Bool, true, false, not, ◌==◌, ◌||◌, List, [], ◌++◌, Option, Some, None, Result, Ok, Err, IfOk, drop, length, min, nat_lt, slice_index, slice_range, take, if◌then◌else◌}
+use Rattle.std.specs.Prelude.{◌≡◌, ◌≢◌, ◌<◌, ◌≤◌, ◌-◌, ◌^◌, ℕ, Bool, true, false, not, ◌==◌, ◌||◌, List, [], ◌++◌, Option, Some, None, Result, Ok, Err, IfOk, drop, length, min, nat_lt, slice_index, slice_range, take, if◌then◌else◌, IsCharBoundary}
 use Rattle.std.specs.Borrow.{Bor}
 use Rattle.std.specs.List.{list_any}
-use Rattle.std.specs.Str.{IsCharBoundary}
 use Rattle.rox_grammar.specs.declared.fault.Fault.{Fault}
 use Rattle.rox_grammar.specs.Content.{literals, line_ends}
 use Rattle.rox_grammar.specs.References.{bytes_end, digit_value, is_digit, is_hex_digit, number}

@@ -1,9 +1,7 @@
 //! The values of attributes, with references and white space replaced (XML 1.0 sections 3.3.3 and 4.1). `plain_bits` appends their
 //! items, and where it stops, this module opens an entity or tells the fault.
 
-ghost use Rattle.std.specs.Prelude.{◌≡◌, ◌-◌, ◌≤◌, ℕ, List};
-ghost use Rattle.std.specs.String.{string_bytes};
-ghost use Rattle.std.specs.Str.{IsCharBoundary};
+ghost use Rattle.std.specs.Prelude.{◌≡◌, ◌-◌, ◌≤◌, ℕ, List, string_bytes, IsCharBoundary};
 ghost use Rattle.rox_reading.specs.Values as spec;
 ghost use Rattle.rox_scan.specs.Views.{HasValue};
 ghost use Rattle.rox_grammar.specs.Entities.{Entity};

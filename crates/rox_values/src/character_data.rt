@@ -1,8 +1,6 @@
 //! The parts of character data, with references and line ends replaced (XML 1.0 sections 2.4, 2.11 and 4.1).
 
-ghost use Rattle.std.specs.Prelude.{◌≡◌, ◌-◌, ℕ, false, ◌<◌, slice_index, true};
-ghost use Rattle.std.specs.String.{string_bytes};
-ghost use Rattle.std.specs.Str.{IsCharBoundary};
+ghost use Rattle.std.specs.Prelude.{◌≡◌, ◌-◌, ℕ, false, ◌<◌, slice_index, true, string_bytes, IsCharBoundary};
 ghost use Rattle.rox_reading.specs.Values as spec;
 ghost use Rattle.rox_values.specs.PlainBits.{BeginsReference};
 ghost use Rattle.rox_values.specs.Values.{AppendsBitFrom, AppendsPartFrom, EndsData, GivesData, HasData, HasOffsets, HasReturn, HasStretch, PutsData, PutsDatum, StopsAt, is_data_byte};

@@ -1,7 +1,6 @@
 //! Line ends, each of which is read as a line feed (XML 1.0 section 2.11).
 
-ghost use Rattle.std.specs.Prelude.{◌≡◌, ◌++◌, IfOk, OnOk, ◌<◌};
-ghost use Rattle.std.specs.String.{string_bytes};
+ghost use Rattle.std.specs.Prelude.{◌≡◌, ◌++◌, IfOk, OnOk, ◌<◌, string_bytes};
 ghost use Rattle.rox_bytes.specs.ScanResults.{HasCharAt};
 ghost use Rattle.rox_values.specs.Values.{AppendsSectionPart, section_rest};
 

@@ -1,8 +1,7 @@
 //! The items of attribute values that need no entity: characters, references to characters, and white space (XML 1.0 sections 3.3.3
 //! and 4.1). They are appended one after another, up to a reference to an entity, a fault, or the end of memory.
 
-ghost use Rattle.std.specs.Prelude.{◌≡◌, ◌-◌, ◌≤◌, ℕ, Bool, List, Ok, IfNone, IfSome, map, true};
-ghost use Rattle.std.specs.String.{string_bytes, string_capacity, string_len};
+ghost use Rattle.std.specs.Prelude.{◌≡◌, ◌-◌, ◌≤◌, ℕ, Bool, List, Ok, IfNone, IfSome, map, true, string_bytes, string_capacity, string_len};
 ghost use Rattle.rox_grammar.specs.Entities.{Entity};
 ghost use Rattle.rox_bytes.specs.ByteSets.{AllPass, is_run_byte};
 ghost use Rattle.rox_reading.specs.Values as spec;

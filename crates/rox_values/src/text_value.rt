@@ -1,8 +1,7 @@
 //! A text that was read: a slice of the source, or a changed text if line ends, references or white space change it. The text of
 //! a CDATA section is read as one of these (XML 1.0 sections 2.7 and 2.11).
 
-ghost use Rattle.std.specs.Prelude.{◌≡◌, ℕ, IfOk, List, is_some};
-ghost use Rattle.std.specs.String.{string_bytes};
+ghost use Rattle.std.specs.Prelude.{◌≡◌, ℕ, IfOk, List, is_some, string_bytes};
 ghost use Rattle.rox_values.specs.Values.{IsItsSlice, piece_view, section_text};
 
 use crate::line_ends::line_feeds;

@@ -1,5 +1,5 @@
 -- Names, white space and values of attributes that are read at one look.
-use Rattle.std.proofs.Common.{◌≡◌, ◌≢◌, inl, inr, ℕ, ◌+◌, ◌-◌, ◌<◌, ◌≤◌, ◌||◌, ◌==◌, Bool, true, false, List, [], length, slice_index, slice_range, refl, sym, ap, subst, ◌∙◌, arith, Ok, not, ◌&&◌, nat_lt}
+use Rattle.std.proofs.Common.{◌≡◌, ◌≢◌, inl, inr, ℕ, ◌+◌, ◌-◌, ◌<◌, ◌≤◌, ◌||◌, ◌==◌, Bool, true, false, List, [], length, slice_index, slice_range, refl, sym, ap, subst, ◌∙◌, arith, Ok, not, ◌&&◌, nat_lt, IsUtf8, IsCharBoundary}
 use Rattle.std.proofs.lemmas.Bool.{lt-leb, eqb-true, ne_eqb, cases_lt, cases_eq}
 use Rattle.rox_grammar.specs.Content.{is_verbatim_value}
 use Rattle.rox_grammar.specs.Entities.{Entity}
@@ -11,7 +11,6 @@ use Rattle.rox_reading.specs.Values.{ValueInclusion, is_special, value_at}
 use Rattle.rox_verbatim.specs.PlainNames.{EndsFirstPart, EndsNear, EndsPrefix, IsLocalPart}
 use Rattle.rox_bytes.specs.declared.byte_set.RunEnd.{RunEnd}
 use Rattle.rox_verbatim.specs.PlainValues.{EndsVerbatim, HasPlainValue, IsQuoteBehindEquals, IsValueStart}
-use Rattle.std.specs.Str.{IsUtf8, IsCharBoundary}
 use Rattle.std.proofs.lemmas.Bool.Decides.{nat_tests}
 use Rattle.std.proofs.lemmas.Str.{IsCharBoundary-after_ascii}
 use Rattle.rox_grammar.specs.Chars.{is_space, is_name_start, is_name_char, is_part_char}

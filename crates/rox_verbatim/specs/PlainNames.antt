@@ -1,6 +1,5 @@
 -- Names that the quick reader reads.
-use Rattle.std.specs.Prelude.{◌≡◌, ◌≢◌, ℕ, ◌+◌, ◌<◌, ◌≤◌, ◌==◌, ◌||◌, true, false, List, Option, Ok, length, slice_index, slice_range, IfSome, [], IfNone}
-use Rattle.std.specs.Str.{IsCharBoundary}
+use Rattle.std.specs.Prelude.{◌≡◌, ◌≢◌, ℕ, ◌+◌, ◌<◌, ◌≤◌, ◌==◌, ◌||◌, true, false, List, Option, Ok, length, slice_index, slice_range, IfSome, [], IfNone, IsCharBoundary}
 use Rattle.rox_grammar.specs.Chars.{is_name_start, is_part_char}
 use Rattle.rox_grammar.specs.Runs.{run_end, begins}
 use Rattle.rox_grammar.specs.Failures.{name_view}

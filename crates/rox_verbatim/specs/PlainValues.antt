@@ -1,6 +1,5 @@
 -- White space and attribute values that the quick reader reads.
-use Rattle.std.specs.Prelude.{◌≡◌, ℕ, ◌+◌, ◌-◌, ◌<◌, ◌≤◌, ◌==◌, ◌||◌, true, List, Ok, length, slice_index, slice_range}
-use Rattle.std.specs.Str.{IsCharBoundary}
+use Rattle.std.specs.Prelude.{◌≡◌, ℕ, ◌+◌, ◌-◌, ◌<◌, ◌≤◌, ◌==◌, ◌||◌, true, List, Ok, length, slice_index, slice_range, IsCharBoundary}
 use Rattle.rox_grammar.specs.Names.{spaces_end}
 use Rattle.rox_grammar.specs.Content.{is_verbatim_value}
 use Rattle.rox_reading.specs.Markup.{raw_value_at}

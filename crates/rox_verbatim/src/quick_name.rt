@@ -1,7 +1,6 @@
 //! Names by the quick reader, which reads only valid ones and reports no fault (Namespaces in XML section 4).
 
-ghost use Rattle.std.specs.Prelude.{◌≡◌, ◌<◌, ◌-◌, ◌==◌, ◌||◌, Ok, IfSome, true, false, []};
-ghost use Rattle.std.specs.Str.{IsCharBoundary};
+ghost use Rattle.std.specs.Prelude.{◌≡◌, ◌<◌, ◌-◌, ◌==◌, ◌||◌, Ok, IfSome, true, false, [], IsCharBoundary};
 ghost use Rattle.rox_grammar.specs.Runs.{begins};
 ghost use Rattle.rox_reading.specs.Lexical.{qname_at};
 ghost use Rattle.rox_bytes.specs.ByteSets.{EndsSet, is_part_byte};

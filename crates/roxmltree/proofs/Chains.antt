@@ -1,9 +1,8 @@
 -- What chains of iterators answer, where an iterator is seen as the list of what it has left, by a view of each item.
-use Rattle.std.proofs.Common.{Bool, List, [], ◌∷◌, map, Option, Some, None, Bor, ◌≡◌, refl, ap, ◌∙◌}
+use Rattle.std.proofs.Common.{Bool, List, [], ◌∷◌, map, Option, Some, None, Bor, ◌≡◌, refl, ap, ◌∙◌, option_map}
 use denote.Param.Members.{Mut}
 use Rattle.std.specs.Fn.{CalledAt}
 use Rattle.std.specs.List.{find, filter, last_or}
-use Rattle.std.specs.Option.{option_map}
 use Rattle.std.specs.declared.iter.Filter.{Filter}
 use Rattle.std.specs.Iterator.{YieldsFirstBy, FindsItem, Drains}
 use Rattle.std.specs.Iterator.Adapters.{filter_source, filter_callee, filter_steps}

@@ -1,7 +1,6 @@
 -- What `reparse` and `exchange` answer.
-use Rattle.std.proofs.Common.{false, [], ◌≡◌, ◌≢◌, ℕ, ◌-◌, ◌<◌, true, List, length, drop, refl, arith, length-take, length-drop}
+use Rattle.std.proofs.Common.{false, [], ◌≡◌, ◌≢◌, ℕ, ◌-◌, ◌<◌, true, List, length, drop, refl, arith, length-take, length-drop, IsUtf8, IsCharBoundary}
 use Rattle.std.specs.Prelude.{Result, IfOk, IfErr}
-use Rattle.std.specs.Str.{IsUtf8, IsCharBoundary}
 use Rattle.rox_grammar.specs.Forest.{Forest, Nil, Cons, size}
 use Rattle.rox_grammar.specs.Tree.{Node, Root}
 use Rattle.rox_grammar.specs.Names.{slice}

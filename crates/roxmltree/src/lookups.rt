@@ -1,7 +1,6 @@
 //! The name of an element, and the search of its attributes and namespaces.
 
-ghost use Rattle.std.specs.Prelude.{◌≡◌, ◌&&◌, ◌<◌, ◌^◌, length, bytes_eq};
-ghost use Rattle.std.specs.Option.{option_map, is_some};
+ghost use Rattle.std.specs.Prelude.{◌≡◌, ◌&&◌, ◌<◌, ◌^◌, length, bytes_eq, option_map, is_some};
 ghost use Rattle.rox_grammar.specs.Tree.{uri_of};
 ghost use Rattle.roxmltree.specs.NodeParts.{is_element_node, local_of, namespace_of, listed_of, attributes_of};
 ghost use Rattle.rox_lists.specs.ExpandedNames.{expanded, same_expanded_name, named, named_locally, prefix_of};

@@ -1,7 +1,6 @@
 //! The kind of a node, its range in the text, and its text.
 
-ghost use Rattle.std.specs.Prelude.{◌≡◌};
-ghost use Rattle.std.specs.Option.{option_map};
+ghost use Rattle.std.specs.Prelude.{◌≡◌, option_map};
 ghost use Rattle.roxmltree.specs.NodeParts.{is_root_node, is_element_node, is_text_node, is_comment_node, is_pi_node, start_of, end_of, text, tail, stored_text, stored_tail, text_content, pi_of};
 ghost use Rattle.roxmltree.specs.Kinds.{type_of};
 ghost use Rattle.rox_lists.specs.StoredText.{stored, instruction};

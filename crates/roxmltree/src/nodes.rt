@@ -1,7 +1,6 @@
 //! A node of a document, its id, and its neighbours.
 
-ghost use Rattle.std.specs.Prelude.{◌≡◌, ◌+◌, ◌^◌, ◌<◌, ◌≤◌, length, ◌∷◌, IsTrue, ◌↔◌, ◌≢◌, ◌⊎◌, reverse};
-ghost use Rattle.std.specs.Option.{option_map};
+ghost use Rattle.std.specs.Prelude.{◌≡◌, ◌+◌, ◌^◌, ◌<◌, ◌≤◌, length, ◌∷◌, IsTrue, ◌↔◌, ◌≢◌, ◌⊎◌, reverse, option_map};
 ghost use Rattle.rox_grammar.specs.Forest.{size};
 ghost use Rattle.roxmltree.specs.NodeRows.{IsRowOf, IsRowOf-prop};
 ghost use Rattle.roxmltree.specs.Places.{place, parent, children, first_child, last_child, next_sibling, prev_sibling};

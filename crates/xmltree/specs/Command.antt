@@ -1,5 +1,4 @@
-use Rattle.std.specs.Prelude.{ℕ, Bool, true, false, List, [], ◌∷◌, ◌==◌, Option, Some, None, codes, string_bytes, bytes_eq, if◌then◌else◌}
-use Rattle.std.specs.Option.{option_map}
+use Rattle.std.specs.Prelude.{ℕ, Bool, true, false, List, [], ◌∷◌, ◌==◌, Option, Some, None, codes, string_bytes, bytes_eq, if◌then◌else◌, option_map}
 use Rattle.xmltree.specs.declared.options.Command.{Command}
 
 -- What is asked for: whether a document type declaration is allowed, the path, if there is one, and the file, or `None` for

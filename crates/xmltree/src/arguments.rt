@@ -1,7 +1,6 @@
 //! The arguments of the program.
 
-ghost use Rattle.std.specs.Prelude.{◌≡◌, map, string_bytes, IfOk};
-ghost use Rattle.std.specs.Option.{option_map};
+ghost use Rattle.std.specs.Prelude.{◌≡◌, map, string_bytes, IfOk, option_map};
 ghost use Rattle.xmltree.specs.Command.{meaning, command_of, command_behind, command_with};
 
 use crate::options::Command;

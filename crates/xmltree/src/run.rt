@@ -1,7 +1,6 @@
 //! The program, from its input to its status.
 
-ghost use Rattle.std.specs.Prelude.{◌≡◌, ◌<◌, ◌≤◌, List, string_bytes, IsNone, IfSome, IsErrOf, MatchOption};
-ghost use Rattle.std.specs.Result.{IsErr};
+ghost use Rattle.std.specs.Prelude.{◌≡◌, ◌<◌, ◌≤◌, List, string_bytes, IsNone, IfSome, IsErrOf, MatchOption, IsErr};
 ghost use Rattle.rox_path.specs.Steps.{PathStep};
 ghost use Rattle.rox_path.specs.Paths.{IsPath};
 

@@ -1,5 +1,4 @@
-use Rattle.std.proofs.Common.{arith}
-use Rattle.std.proofs.lemmas.Bool.{eqb-true}
+use Rattle.std.proofs.Common.{arith, eqb-true}
 use Rattle.rox_scan.proofs.LongerLemmas.{looked_value}
 use Rattle.rox_verbatim.proofs.Verbatim.{value_is}
 use Rattle.rox_attributes.proofs.SpacedEnds.{value_spaced}

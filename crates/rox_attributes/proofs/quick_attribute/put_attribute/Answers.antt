@@ -1,5 +1,4 @@
-use Rattle.std.proofs.Common.{◌+◌, ◌≤◌, subst, arith}
-use Rattle.std.specs.Str.{IsCharBoundary}
+use Rattle.std.proofs.Common.{◌+◌, ◌≤◌, subst, arith, IsCharBoundary}
 use Rattle.rox_bytes.specs.ByteSets.{EndsSet, is_value_byte}
 use Rattle.rox_bytes.proofs.NearLemmas.{part_stops}
 use Rattle.rox_verbatim.proofs.Verbatim.{behind_quote, ascii_begins, quote_first}

@@ -1,6 +1,5 @@
-use Rattle.std.proofs.Common.{◌≡◌, length, slice_index, ap, sym, ◌∙◌, arith, rules}
+use Rattle.std.proofs.Common.{◌≡◌, length, slice_index, ap, sym, ◌∙◌, arith, rules, eqb-true}
 use Rattle.std.proofs.lemmas.Grind.{common_steps}
-use Rattle.std.proofs.lemmas.Bool.{eqb-true}
 use Rattle.rox_grammar.specs.Failures.{name_view}
 use Rattle.rox_reading.proofs.Stretches.{range_length}
 use Rattle.rox_bytes.proofs.NearLemmas.{part_stops, part_cut}

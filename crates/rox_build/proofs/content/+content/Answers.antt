@@ -1,7 +1,5 @@
-use Rattle.std.proofs.Common.{◌≡◌, ◌<◌, ◌≤◌, ◌+◌, ◌-◌, suc, ℕ, Bool, true, false, List, Ok, length, refl, sym, ap, subst, ◌∙◌, arith, rules}
-use Rattle.std.specs.Str.{IsCharBoundary}
+use Rattle.std.proofs.Common.{◌≡◌, ◌<◌, ◌≤◌, ◌+◌, ◌-◌, suc, ℕ, Bool, true, false, List, Ok, length, refl, sym, ap, subst, ◌∙◌, arith, rules, IsCharBoundary, leb-true, leb-false}
 use Rattle.std.proofs.lemmas.Grind.{common_steps}
-use Rattle.std.proofs.lemmas.Bool.{leb-true, leb-false}
 use Rattle.std.proofs.lemmas.Result.{err_from_is_err_and}
 use Rattle.rox_grammar.specs.Content.{is_verbatim}
 use Rattle.rox_grammar.specs.Entities.{Entity, Replacement}

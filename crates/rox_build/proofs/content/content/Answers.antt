@@ -1,6 +1,5 @@
-use Rattle.std.proofs.Common.{◌≡◌, ℕ, List, subst, ◌<◌, ◌≤◌, false, Ok, refl, sym, ap, ◌∙◌, arith, length, rules}
+use Rattle.std.proofs.Common.{◌≡◌, ℕ, List, subst, ◌<◌, ◌≤◌, false, Ok, refl, sym, ap, ◌∙◌, arith, length, rules, leb-true, leb-false}
 use Rattle.std.proofs.lemmas.Result.{err_from_is_err_and}
-use Rattle.std.proofs.lemmas.Bool.{leb-true, leb-false}
 use Rattle.rox_values.specs.Refusals.{IsRefusal}
 use Rattle.rox_grammar.specs.State.{is_root}
 use Rattle.rox_reading.specs.Machine.{step}

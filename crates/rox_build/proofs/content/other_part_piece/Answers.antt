@@ -1,6 +1,5 @@
-use Rattle.std.proofs.Common.{◌≡◌, [], false, refl, sym, ap, ◌∙◌, arith, length, rules}
+use Rattle.std.proofs.Common.{◌≡◌, [], false, refl, sym, ap, ◌∙◌, arith, length, rules, string_bytes}
 use Rattle.std.proofs.lemmas.Grind.{common_steps}
-use Rattle.std.specs.String.{string_bytes}
 use Rattle.std.proofs.lemmas.Bool.{eqb-false}
 use Rattle.std.proofs.lemmas.Result.{err_from_is_err_and}
 use Rattle.rox_values.specs.Contexts.{context_of}

@@ -1,7 +1,6 @@
-use Rattle.std.proofs.Common.{ℕ, List, ◌++◌, ap, subst, ◌∙◌, append-nil, Ok, rules, arith}
+use Rattle.std.proofs.Common.{ℕ, List, ◌++◌, ap, subst, ◌∙◌, append-nil, Ok, rules, arith, string_bytes}
 use Rattle.std.proofs.lemmas.Grind.{common_steps}
 use Rattle.std.proofs.lemmas.Result.{err_from_is_err_and}
-use Rattle.std.specs.String.{string_bytes}
 use Rattle.rox_reading.specs.Machine.{with_piece}
 use Rattle.rox_grammar.specs.Failures.{Fails}
 use Rattle.rox_values.specs.Contexts.{context_of}

@@ -1,7 +1,6 @@
-use Rattle.std.proofs.Common.{◌≡◌, ◌<◌, ◌≤◌, sym, ap, ◌∙◌, subst, length, rules, arith}
+use Rattle.std.proofs.Common.{◌≡◌, ◌<◌, ◌≤◌, sym, ap, ◌∙◌, subst, length, rules, arith, leb-true, leb-false}
 use Rattle.std.proofs.lemmas.Grind.{common_steps}
 use Rattle.std.proofs.lemmas.Result.{err_from_is_err_and}
-use Rattle.std.proofs.lemmas.Bool.{leb-true, leb-false}
 use Rattle.rox_grammar.specs.State.{Open, root}
 use Rattle.rox_builder.specs.BuilderState.{Represents}
 use Rattle.rox_build.proofs.Documents.{body_fails, more_stands, no_element, an_element}

@@ -1,6 +1,5 @@
-use Rattle.std.proofs.Common.{List, ℕ, map, replicate, length-drop, take, drop, bit_and, sym, ap, ◌∙◌, arith}
+use Rattle.std.proofs.Common.{List, ℕ, map, replicate, length-drop, take, drop, bit_and, sym, ap, ◌∙◌, arith, drop-drop}
 use Rattle.std.specs.Simd.Lanes.{sel_l, top, zip2}
-use Rattle.std.proofs.lemmas.List.{drop-drop}
 use Rattle.rox_bytes.proofs.EasedLemmas.{drop_eased, eased_lanes}
 use Rattle.rox_bytes.proofs.LaneLemmas.{differs, equals}
 use Rattle.rox_bytes.proofs.byte_set.eased_at.Goals as goal

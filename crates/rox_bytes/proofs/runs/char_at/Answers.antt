@@ -1,5 +1,4 @@
-use Rattle.std.proofs.Common.{◌≡◌, ◌++◌, drop, ◌∙◌, sym, ap, refl, arith}
-use Rattle.std.specs.Char.{encode_utf8}
+use Rattle.std.proofs.Common.{◌≡◌, ◌++◌, drop, ◌∙◌, sym, ap, refl, arith, encode_utf8}
 use Rattle.std.proofs.lemmas.Str.{drop_past_char, IsUtf8-drop, chars_past_char, IsCharBoundary-past_char}
 use Rattle.rox_bytes.proofs.runs.char_at.Goals as goal
 

@@ -1,5 +1,4 @@
-use Rattle.std.proofs.Common.{length, ◌-◌, ◌≡◌, ◌≤◌}
-use Rattle.std.specs.Str.{IsCharBoundary}
+use Rattle.std.proofs.Common.{length, ◌-◌, ◌≡◌, ◌≤◌, IsCharBoundary}
 use Rattle.rox_grammar.specs.Runs.{run_end}
 use Rattle.rox_bytes.proofs.runs.run_end.Given as goal
 

@@ -1,5 +1,4 @@
-use Rattle.std.proofs.Common.{length, get_or, arith, get_or-drop, ap, ◌∙◌, sym}
-use Rattle.std.proofs.lemmas.Bool.{eqb-true}
+use Rattle.std.proofs.Common.{length, get_or, arith, get_or-drop, ap, ◌∙◌, sym, eqb-true}
 use Rattle.std.proofs.lemmas.Str.{IsCharBoundary-after_ascii}
 use Rattle.std.proofs.lemmas.Grind.{common_steps}
 use Rattle.rox_grammar.specs.Search.{byte_from}

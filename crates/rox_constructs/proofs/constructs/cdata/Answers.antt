@@ -1,5 +1,4 @@
-use Rattle.std.proofs.Common.{refl, sym, rules, arith}
-use Rattle.std.specs.String.{string_bytes}
+use Rattle.std.proofs.Common.{refl, sym, rules, arith, string_bytes}
 use Rattle.rox_values.specs.Values.{piece_view}
 use Rattle.rox_builder.proofs.Stepping.{cdata_is, cdata_fails, text_stepped, same_shows}
 use Rattle.rox_constructs.proofs.constructs.cdata.Goals as goal

@@ -1,5 +1,4 @@
-use Rattle.std.proofs.Common.{◌≡◌, ◌+◌, ◌++◌, ◌∷◌, [], ℕ, get_or, length, sym, ap, ◌∙◌, arith}
-use Rattle.std.proofs.lemmas.List.{length-take-le}
+use Rattle.std.proofs.Common.{◌≡◌, ◌+◌, ◌++◌, ◌∷◌, [], ℕ, get_or, length, sym, ap, ◌∙◌, arith, length-take-le}
 use Rattle.rox_grammar.specs.State.{inside}
 use Rattle.rox_grammar.specs.Written.{Name}
 use Rattle.rox_reading.specs.Machine.{name_span}

@@ -1,5 +1,4 @@
-use Rattle.std.proofs.Common.{◌≡◌, length, take, sym, ◌∙◌, refl, arith}
-use Rattle.std.proofs.lemmas.List.{length-take, get_or-take}
+use Rattle.std.proofs.Common.{◌≡◌, length, take, sym, ◌∙◌, refl, arith, length-take, get_or-take}
 use Rattle.rox_content.proofs.SameBytes.{agree_before}
 use Rattle.rox_content.proofs.same_front.same_count.Goals as goal
 

@@ -1,5 +1,4 @@
-use Rattle.std.proofs.Common.{sym, subst, rules}
-use Rattle.std.specs.Str.{IsUtf8}
+use Rattle.std.proofs.Common.{sym, subst, rules, IsUtf8}
 use Rattle.rox_error.proofs.WordLemmas.{word_utf8}
 use Rattle.rox_error.proofs.from_fault.fixed_text.Goals as goal
 

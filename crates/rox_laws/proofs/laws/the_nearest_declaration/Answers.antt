@@ -1,5 +1,4 @@
-use Rattle.std.proofs.Common.{◌≡◌, ◌↔◌, ℕ, List, Option, Some, None, subst, sym, ◌∙◌}
-use Rattle.std.specs.Option.{option_map}
+use Rattle.std.proofs.Common.{◌≡◌, ◌↔◌, ℕ, List, Option, Some, None, subst, sym, ◌∙◌, option_map}
 use Rattle.rox_theory.proofs.ParseParts.{tree_parts}
 use Rattle.rox_laws.specs.NearestDeclaration.{upwards, NoneDeclares, IsNearest, listed_uri}
 use Rattle.roxmltree.specs.NodeRef.{id_of, tree_of}

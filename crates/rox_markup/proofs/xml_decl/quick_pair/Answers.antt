@@ -1,5 +1,4 @@
-use Rattle.std.proofs.Common.{◌≡◌, ◌+◌, length, refl, sym, ap, ◌∙◌, arith, slice_index}
-use Rattle.std.proofs.lemmas.Bool.{eqb-true}
+use Rattle.std.proofs.Common.{◌≡◌, ◌+◌, length, refl, sym, ap, ◌∙◌, arith, slice_index, eqb-true}
 use Rattle.rox_grammar.specs.FixedTexts.{word_text}
 use Rattle.rox_bytes.proofs.NearLemmas.{short_chars, value_cut}
 use Rattle.rox_markup.proofs.PairLemmas.{word_is, pair_is}

@@ -1,4 +1,4 @@
-use Rattle.std.proofs.Common.{rules, ◌≡◌, ◌<◌, ◌≤◌, ◌∷◌, ◌++◌, [], drop, true, false, refl, sym, ap, ◌∙◌, subst, map, length, length-append, arith, Err}
+use Rattle.std.proofs.Common.{rules, ◌≡◌, ◌<◌, ◌≤◌, ◌∷◌, ◌++◌, [], drop, true, false, refl, sym, ap, ◌∙◌, subst, map, length, length-append, arith, Err, slice_range}
 use Rattle.std.proofs.lemmas.List.{drop-append-le, length-map}
 use Rattle.std.proofs.lemmas.Result.{err_from_is_err_and}
 use Rattle.rox_grammar.specs.declared.fault.Fault.TheVariants as fault
@@ -9,7 +9,6 @@ use Rattle.rox_grammar.specs.Tree.{is_declared, is_xml}
 use Rattle.rox_grammar.specs.Document.{most_pairs}
 use Rattle.rox_grammar.specs.Counts.{with_new}
 use Rattle.rox_reading.specs.Tags.{declared}
-use Rattle.std.specs.List.{slice_range}
 use Rattle.std.proofs.lemmas.Bool.{or_parts}
 use Rattle.rox_reading.specs.AtIndex.{namespace_at}
 use Rattle.rox_scopes.specs.NamespaceViews.{namespace_view}

@@ -1,5 +1,4 @@
-use Rattle.std.proofs.Common.{◌-◌, map, length}
-use Rattle.std.specs.Str.{IsCharBoundary}
+use Rattle.std.proofs.Common.{◌-◌, map, length, IsCharBoundary}
 use Rattle.rox_path.specs.Steps.{step_of}
 use Rattle.rox_path.proofs.PathLemmas.{Read}
 use Rattle.rox_path.proofs.parse.parse_path.Given as goal

@@ -1,5 +1,4 @@
-use Rattle.std.proofs.Common.{◌≡◌, map, ◌++◌}
-use Rattle.std.specs.List.{filter}
+use Rattle.std.proofs.Common.{◌≡◌, map, ◌++◌, filter}
 use Rattle.roxmltree.specs.NodeRef.{id_of, node_ref}
 use Rattle.rox_path.specs.NodeMarks.{subtree_of, is_marked_node}
 use Rattle.rox_path.proofs.selection.marked_nodes.Given as goal

@@ -1,7 +1,5 @@
-use Rattle.std.proofs.Common.{◌≡◌, Bool, true, List, [], ◌∷◌, ◌++◌, map, take, ◌∙◌, sym, subst, ap, Vec, Global}
-use Rattle.std.specs.List.{filter}
+use Rattle.std.proofs.Common.{◌≡◌, Bool, true, List, [], ◌∷◌, ◌++◌, map, take, ◌∙◌, sym, subst, ap, Vec, Global, filter, take_all}
 use Rattle.std.proofs.lemmas.Result.{IfOk-weaker}
-use Rattle.std.proofs.lemmas.List.{take_all}
 use Rattle.roxmltree.specs.ExpandedNames.{expanded}
 use Rattle.roxmltree.specs.NodeRef.{id_of, document_of, node_ref}
 use Rattle.rox_path.specs.Steps.{PathStep, step_of}

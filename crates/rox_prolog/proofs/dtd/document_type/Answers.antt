@@ -1,8 +1,7 @@
-use Rattle.std.proofs.Common.{◌≡◌, ◌+◌, ◌<◌, ◌≤◌, ◌==◌, [], false, Ok, Err, sym, ap, ◌∙◌, length, lit<, rules, arith}
+use Rattle.std.proofs.Common.{◌≡◌, ◌+◌, ◌<◌, ◌≤◌, ◌==◌, [], false, Ok, Err, sym, ap, ◌∙◌, length, lit<, rules, arith, leb-true, leb-false, eqb-true, ne_eqb}
 use Rattle.std.proofs.lemmas.Grind.{common_steps}
 use Rattle.std.specs.Prelude.{slice_index}
 use Rattle.std.proofs.lemmas.Result.{err_from_is_err_and}
-use Rattle.std.proofs.lemmas.Bool.{leb-true, leb-false, eqb-true, ne_eqb}
 use Rattle.rox_reading.specs.Doctype.{with_state, doctype_head_at}
 use Rattle.rox_reading.specs.Machine.{at_place}
 use Rattle.rox_reading.proofs.Settling.{doctype_head_stops, doctype_cut_stops, doctype_plain, doctype_other_stops}

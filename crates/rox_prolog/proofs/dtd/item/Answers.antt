@@ -1,7 +1,6 @@
-use Rattle.std.proofs.Common.{Bool, Result, sym, subst, ap, ◌∙◌, rules, arith}
+use Rattle.std.proofs.Common.{Bool, Result, sym, subst, ap, ◌∙◌, rules, arith, eqb-true}
 use Rattle.std.proofs.lemmas.Grind.{common_steps}
 use Rattle.std.proofs.lemmas.Result.{err_from_is_err_and, on_ok_weaker}
-use Rattle.std.proofs.lemmas.Bool.{eqb-true}
 use Rattle.rox_prolog.specs.Requests.{Allows}
 use Rattle.rox_prolog.specs.Asking.{ItemOutcome}
 use Rattle.rox_builder.specs.BuilderState.{GoesOn}

@@ -1,7 +1,6 @@
-use Rattle.std.proofs.Common.{◌≡◌, ℕ, suc, ◌+◌, ◌-◌, ◌≤◌, List, Bool, Ok, Err, Result, sym, ap, ◌∙◌, refl, length, arith, rules}
+use Rattle.std.proofs.Common.{◌≡◌, ℕ, suc, ◌+◌, ◌-◌, ◌≤◌, List, Bool, Ok, Err, Result, sym, ap, ◌∙◌, refl, length, arith, rules, leb-true}
 use Rattle.std.proofs.lemmas.Grind.{common_steps}
 use Rattle.std.proofs.lemmas.Result.{err_from_is_err_and}
-use Rattle.std.proofs.lemmas.Bool.{leb-true}
 use Rattle.rox_reading.specs.Doctype as reading
 use Rattle.rox_reading.specs.Doctype.{Asks, Dtd}
 use Rattle.rox_reading.specs.Answering.{left_with}

@@ -1,5 +1,4 @@
-use Rattle.std.proofs.Common.{rules, ◌++◌, sym, ap, ◌∙◌, arith}
-use Rattle.std.specs.Option.{option_to_list}
+use Rattle.std.proofs.Common.{rules, ◌++◌, sym, ap, ◌∙◌, arith, option_to_list}
 use Rattle.std.specs.Prelude.{Option, not}
 use Rattle.rox_storage.specs.Storage.{is_borrowed}
 use Rattle.rox_rows.specs.declared.stored_attribute.StoredAttribute.{StoredAttribute}

@@ -1,5 +1,4 @@
-use Rattle.std.proofs.Common.{arith}
-use Rattle.std.proofs.lemmas.Bool.{ne_eqb}
+use Rattle.std.proofs.Common.{arith, ne_eqb}
 use Rattle.rox_scan.proofs.LongerLemmas.{run_char, run_near}
 use Rattle.rox_scan.proofs.character_data.scan_character_data.Goals as goal
 

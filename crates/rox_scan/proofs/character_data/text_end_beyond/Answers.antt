@@ -1,5 +1,4 @@
-use Rattle.std.proofs.Common.{true, sym, ◌∙◌}
-use Rattle.std.proofs.lemmas.Bool.{eqb-true}
+use Rattle.std.proofs.Common.{true, sym, ◌∙◌, eqb-true}
 use Rattle.rox_scan.specs.Lookahead.{changes_run, ends_run}
 use Rattle.rox_scan.proofs.LongerLemmas.{looked_on, run_near}
 use Rattle.rox_scan.proofs.character_data.text_end_beyond.Goals as goal

@@ -1,5 +1,4 @@
-use Rattle.std.proofs.Common.{◌≤◌, ◌-◌, length}
-use Rattle.std.specs.Str.{IsCharBoundary}
+use Rattle.std.proofs.Common.{◌≤◌, ◌-◌, length, IsCharBoundary}
 use Rattle.rox_grammar.specs.Constructs.{AreChars}
 use Rattle.rox_scan.proofs.lookahead.chars_end.Given as goal
 

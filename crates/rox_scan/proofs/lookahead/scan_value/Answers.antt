@@ -1,5 +1,4 @@
-use Rattle.std.proofs.Common.{◌≡◌, ◌<◌, ℕ, List, false, get_or, refl, ap, ◌∙◌, arith}
-use Rattle.std.proofs.lemmas.Bool.{ne_eqb}
+use Rattle.std.proofs.Common.{◌≡◌, ◌<◌, ℕ, List, false, get_or, refl, ap, ◌∙◌, arith, ne_eqb}
 use Rattle.rox_reading.specs.Values.{is_special}
 use Rattle.rox_scan.specs.Lookahead.{ends_value}
 use Rattle.rox_scan.proofs.LongerLemmas.{value_char, any_value_near}

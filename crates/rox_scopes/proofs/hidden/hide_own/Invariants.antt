@@ -1,5 +1,4 @@
-use Rattle.std.proofs.Common.{false, map}
-use Rattle.std.specs.List.{slice_range}
+use Rattle.std.proofs.Common.{false, map, slice_range}
 use Rattle.rox_scopes.specs.NamespaceViews.{namespace_view}
 use Rattle.rox_scopes.specs.Scopes.{entries, others}
 use Rattle.rox_scopes.specs.Hidden.{listed_by, AddsRows}

@@ -1,5 +1,4 @@
-use Rattle.std.proofs.Common.{◌<◌, false, length, arith}
-use Rattle.std.proofs.lemmas.List.{take_all}
+use Rattle.std.proofs.Common.{◌<◌, false, length, arith, take_all}
 use Rattle.rox_scopes.proofs.Remembering.{remembers_few, remembers_many, remembers_more, declared_next}
 use Rattle.rox_scopes.proofs.prefix_set.add_prefix.Goals as goal
 

@@ -1,6 +1,4 @@
-use Rattle.std.proofs.Common.{◌≡◌, false, Ok, slice_range, refl, sym, ◌∙◌, arith}
-use Rattle.std.specs.String.{string_bytes}
-use Rattle.std.proofs.lemmas.Bool.{eqb-true}
+use Rattle.std.proofs.Common.{◌≡◌, false, Ok, slice_range, refl, sym, ◌∙◌, arith, string_bytes, eqb-true}
 use Rattle.rox_builder.specs.BuilderState.{KeepsOpen}
 use Rattle.rox_builder.proofs.Stepping.{parted_run, same_shows}
 use Rattle.rox_sections.proofs.ChangedRuns.{changed_run}

@@ -1,5 +1,4 @@
-use Rattle.std.proofs.Common.{◌≡◌, ◌<◌, ◌+◌, true, false, List, Ok, ℕ, length, refl, ap, sym, subst, ◌∙◌, arith}
-use Rattle.std.specs.String.{string_bytes}
+use Rattle.std.proofs.Common.{◌≡◌, ◌<◌, ◌+◌, true, false, List, Ok, ℕ, length, refl, ap, sym, subst, ◌∙◌, arith, string_bytes}
 use Rattle.rox_bytes.proofs.MarkLemmas.{stands_fits}
 use Rattle.rox_grammar.specs.State.{is_root}
 use Rattle.rox_grammar.specs.declared.fault.Word.TheVariants as word

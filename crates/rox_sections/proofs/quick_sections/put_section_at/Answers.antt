@@ -1,5 +1,4 @@
-use Rattle.std.proofs.Common.{◌≡◌, true, Ok, sym, ◌∙◌, arith}
-use Rattle.std.proofs.lemmas.Bool.{eqb-true}
+use Rattle.std.proofs.Common.{◌≡◌, true, Ok, sym, ◌∙◌, arith, eqb-true}
 use Rattle.rox_grammar.specs.declared.fault.Word.TheVariants as word
 use Rattle.rox_grammar.specs.FixedTexts.{word_text}
 use Rattle.rox_grammar.specs.Search.{stands}

@@ -1,6 +1,5 @@
-use Rattle.std.proofs.Common.{◌≡◌, ◌<◌, ◌≤◌, ◌+◌, ◌-◌, suc, refl, sym, ap, subst, ◌∙◌, arith, length, Ok, Err, List, ℕ}
+use Rattle.std.proofs.Common.{◌≡◌, ◌<◌, ◌≤◌, ◌+◌, ◌-◌, suc, refl, sym, ap, subst, ◌∙◌, arith, length, Ok, Err, List, ℕ, leb-true, leb-false}
 use Rattle.std.proofs.lemmas.Result.{err_from_is_err_and}
-use Rattle.std.proofs.lemmas.Bool.{leb-true, leb-false}
 use Rattle.rox_values.specs.Refusals.{IsRefusal, of_failure}
 use Rattle.rox_values.specs.DeclaredEntities.{values_in}
 use Rattle.rox_starts.specs.TagState.{GivesTagPart}

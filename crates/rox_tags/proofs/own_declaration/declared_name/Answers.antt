@@ -1,5 +1,4 @@
-use Rattle.std.proofs.Common.{sym, ◌∙◌, arith}
-use Rattle.std.proofs.lemmas.Bool.{eqb-true}
+use Rattle.std.proofs.Common.{sym, ◌∙◌, arith, eqb-true}
 use Rattle.rox_tags.proofs.OwnNames.{colon_stops, declares_whole, equals_stops, first_part}
 use Rattle.rox_tags.proofs.own_declaration.declared_name.Goals as goal
 

@@ -1,5 +1,4 @@
-use Rattle.std.proofs.Common.{◌≡◌, [], map, refl}
-use Rattle.std.specs.Option.{option_map}
+use Rattle.std.proofs.Common.{◌≡◌, [], map, refl, option_map}
 use Rattle.rox_grammar.specs.Tree.{element_namespace}
 use Rattle.rox_grammar.specs.Written.{Name}
 use Rattle.rox_names.specs.TagScopes.{scope_in_tables}

@@ -1,5 +1,4 @@
-use Rattle.std.proofs.Common.{◌≡◌, Bool, true, false, not, length, ap, arith}
-use Rattle.std.proofs.lemmas.List.{length-append}
+use Rattle.std.proofs.Common.{◌≡◌, Bool, true, false, not, length, ap, arith, length-append}
 use Rattle.rox_rows.specs.Rows.{attribute_rows}
 use Rattle.rox_seen.proofs.SeenCodes.{seen_kept}
 use Rattle.rox_tags.proofs.TagAttributes.{done_within, ends_or_not, holds_declared, holds_grown, holds_more, holds_scope, holds_start}

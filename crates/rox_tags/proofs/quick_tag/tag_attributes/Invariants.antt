@@ -1,5 +1,4 @@
-use Rattle.std.proofs.Common.{◌≡◌, ◌-◌, length}
-use Rattle.std.specs.Str.{IsCharBoundary}
+use Rattle.std.proofs.Common.{◌≡◌, ◌-◌, length, IsCharBoundary}
 use Rattle.rox_rows.specs.Rows.{attribute_rows}
 use Rattle.rox_seen.specs.SeenNames.{AreSeen}
 use Rattle.rox_tags.specs.TagAttributes.{HoldsSoFar}

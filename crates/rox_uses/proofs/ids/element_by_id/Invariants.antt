@@ -1,5 +1,4 @@
-use Rattle.std.proofs.Common.{◌≡◌}
-use Rattle.std.specs.List.{find}
+use Rattle.std.proofs.Common.{◌≡◌, find}
 use Rattle.rox_uses.specs.Ids.{has_id}
 use Rattle.rox_uses.specs.Nodes.{nodes_of}
 use Rattle.rox_uses.proofs.ids.element_by_id.Given as goal

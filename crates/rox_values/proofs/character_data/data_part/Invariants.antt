@@ -1,5 +1,4 @@
-use Rattle.std.proofs.Common.{◌≡◌, ◌-◌, List}
-use Rattle.std.specs.String.{string_bytes}
+use Rattle.std.proofs.Common.{◌≡◌, ◌-◌, List, string_bytes}
 use Rattle.rox_grammar.specs.Entities.{Entity}
 use Rattle.rox_reading.specs.Values.{data_part}
 use Rattle.rox_values.specs.DeclaredEntities.{AreDeclared}

@@ -1,5 +1,4 @@
-use Rattle.std.proofs.Common.{arith}
-use Rattle.std.specs.String.{string_bytes}
+use Rattle.std.proofs.Common.{arith, string_bytes}
 use Rattle.rox_values.proofs.DataLemmas.{more_data}
 use Rattle.rox_values.proofs.character_data.put_data.Goals as goal
 

@@ -1,5 +1,4 @@
-use Rattle.std.proofs.Common.{◌-◌}
-use Rattle.std.specs.String.{string_bytes}
+use Rattle.std.proofs.Common.{◌-◌, string_bytes}
 use Rattle.rox_values.specs.Values.{PutsData}
 use Rattle.rox_values.proofs.character_data.put_data.Given as goal
 

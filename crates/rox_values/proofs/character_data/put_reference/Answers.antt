@@ -1,5 +1,4 @@
-use Rattle.std.proofs.Common.{◌<◌, arith, rules}
-use Rattle.std.specs.String.{string_bytes}
+use Rattle.std.proofs.Common.{◌<◌, arith, rules, string_bytes}
 use Rattle.rox_values.proofs.DataLemmas.{reference_put}
 use Rattle.rox_values.proofs.character_data.put_reference.Goals as goal
 

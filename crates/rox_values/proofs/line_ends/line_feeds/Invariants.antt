@@ -1,6 +1,4 @@
-use Rattle.std.proofs.Common.{◌≡◌, ◌++◌, ◌-◌, length}
-use Rattle.std.specs.String.{string_bytes}
-use Rattle.std.specs.Str.{IsCharBoundary}
+use Rattle.std.proofs.Common.{◌≡◌, ◌++◌, ◌-◌, length, string_bytes, IsCharBoundary}
 use Rattle.rox_values.specs.Values.{section_rest}
 use Rattle.rox_values.proofs.line_ends.line_feeds.Given as goal
 

@@ -1,5 +1,4 @@
-use Rattle.std.proofs.Common.{◌≡◌, ◌<◌, length, slice_range, arith}
-use Rattle.std.specs.String.{string_bytes}
+use Rattle.std.proofs.Common.{◌≡◌, ◌<◌, length, slice_range, arith, string_bytes}
 use Rattle.rox_values.specs.declared.plain_bits.TextKind.TheVariants as kind_of
 use Rattle.rox_values.proofs.BitLemmas.{front_put, special_cut, tested_on, whole_value}
 use Rattle.rox_values.proofs.SpacedLemmas.{spaced_value, whole_runs}

@@ -1,5 +1,4 @@
-use Rattle.std.proofs.Common.{arith}
-use Rattle.std.specs.String.{string_bytes}
+use Rattle.std.proofs.Common.{arith, string_bytes}
 use Rattle.rox_values.proofs.BitLemmas.{none_put, one_more, tested_on}
 use Rattle.rox_values.proofs.plain_bits.put_plain_bits.Goals as goal
 

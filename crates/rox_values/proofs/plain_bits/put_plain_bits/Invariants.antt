@@ -1,5 +1,4 @@
-use Rattle.std.proofs.Common.{◌-◌, ◌≤◌}
-use Rattle.std.specs.String.{string_bytes, string_capacity}
+use Rattle.std.proofs.Common.{◌-◌, ◌≤◌, string_bytes, string_capacity}
 use Rattle.rox_values.specs.PlainBits.{IsTested, PutsBits}
 use Rattle.rox_values.proofs.plain_bits.put_plain_bits.Given as goal
 

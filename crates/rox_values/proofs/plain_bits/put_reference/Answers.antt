@@ -1,6 +1,4 @@
-use Rattle.std.proofs.Common.{◌<◌, arith, rules}
-use Rattle.std.specs.Str.{IsCharBoundary}
-use Rattle.std.specs.String.{string_bytes}
+use Rattle.std.proofs.Common.{◌<◌, arith, rules, IsCharBoundary, string_bytes}
 use Rattle.rox_values.proofs.BitLemmas.{reference_put}
 use Rattle.rox_values.proofs.StopLemmas.{character_stops, entity_stops, fault_stops, item_stops}
 use Rattle.rox_values.proofs.plain_bits.put_reference.Goals as goal

@@ -1,5 +1,4 @@
-use Rattle.std.proofs.Common.{◌≡◌, ◌≤◌, ◌-◌, ◌^◌, min, length}
-use Rattle.std.specs.List.{slice_range}
+use Rattle.std.proofs.Common.{◌≡◌, ◌≤◌, ◌-◌, ◌^◌, min, length, slice_range}
 use Rattle.rox_grammar.specs.References.{bytes_end, number}
 use Rattle.rox_values.specs.Values.{base_of, is_digit_of}
 use Rattle.rox_values.proofs.reference.read_digits.Given as goal

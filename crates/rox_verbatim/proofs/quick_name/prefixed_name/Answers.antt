@@ -1,6 +1,5 @@
-use Rattle.std.proofs.Common.{◌≡◌, ℕ, ◌+◌, ◌<◌, ◌≤◌, ◌==◌, ◌||◌, Bool, true, false, List, Ok, length, slice_index, slice_range, arith}
+use Rattle.std.proofs.Common.{◌≡◌, ℕ, ◌+◌, ◌<◌, ◌≤◌, ◌==◌, ◌||◌, Bool, true, false, List, Ok, length, slice_index, slice_range, arith, IsUtf8}
 use Rattle.std.proofs.lemmas.Bool.Decides.{nat_tests}
-use Rattle.std.specs.Str.{IsUtf8}
 use Rattle.rox_grammar.specs.Chars.{is_name_start, is_name_char, is_part_char}
 use Rattle.rox_grammar.specs.Runs.{begins, run_end}
 use Rattle.rox_reading.specs.Lexical.{qname_at}

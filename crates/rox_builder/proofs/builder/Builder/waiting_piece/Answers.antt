@@ -1,5 +1,4 @@
-use Rattle.std.proofs.Common.{◌≡◌, ◌++◌, is_some, sym, refl, ap, ◌∙◌, List, ℕ, arith}
-use Rattle.std.specs.String.{string_bytes}
+use Rattle.std.proofs.Common.{◌≡◌, ◌++◌, is_some, sym, refl, ap, ◌∙◌, List, ℕ, arith, string_bytes}
 use Rattle.rox_grammar.specs.Forest.{join}
 use Rattle.rox_grammar.specs.Written.{Text, leaf}
 use Rattle.rox_reading.specs.State.{State}

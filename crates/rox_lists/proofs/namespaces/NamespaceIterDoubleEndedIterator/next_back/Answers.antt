@@ -1,5 +1,4 @@
-use Rattle.std.proofs.Common.{◌<◌, ◌-◌, [], ◌∷◌, ◌++◌, length, map, ap, sym, ◌∙◌, arith}
-use Rattle.std.specs.List.{slice_range}
+use Rattle.std.proofs.Common.{◌<◌, ◌-◌, [], ◌∷◌, ◌++◌, length, map, ap, sym, ◌∙◌, arith, slice_range}
 use Rattle.std.proofs.lemmas.List.{map-append}
 use Rattle.rox_reading.specs.AtIndex.{namespace_at}
 use Rattle.rox_scopes.specs.NamespaceViews.{namespace_view}

@@ -1,5 +1,4 @@
-use Rattle.std.proofs.Common.{arith}
-use Rattle.std.proofs.lemmas.List.{take_all}
+use Rattle.std.proofs.Common.{arith, take_all}
 use Rattle.rox_rows.proofs.StoredNodes.{length_nodes, whole-take, within-take}
 use Rattle.rox_rows.proofs.node_table.NodeTable.truncate.Goals as goal
 

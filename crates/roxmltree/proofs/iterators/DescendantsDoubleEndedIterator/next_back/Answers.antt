@@ -1,5 +1,4 @@
-use Rattle.std.proofs.Common.{arith}
-use Rattle.std.proofs.lemmas.List.{length-take-le}
+use Rattle.std.proofs.Common.{arith, length-take-le}
 use Rattle.roxmltree.proofs.Ranges.{spots_last, spots_length}
 use Rattle.roxmltree.proofs.Rows.{row_count}
 use Rattle.roxmltree.proofs.iterators.DescendantsDoubleEndedIterator.next_back.Goals as goal

@@ -1,6 +1,4 @@
-use Rattle.std.proofs.Common.{◌≡◌, ℕ, List, ◌++◌, take, drop, ◌-◌, arith, sym, ap, ◌∙◌, subst, string_bytes}
-use Rattle.std.specs.Str.{IsCharBoundary}
-use Rattle.std.proofs.lemmas.List.{append_assoc}
+use Rattle.std.proofs.Common.{◌≡◌, ℕ, List, ◌++◌, take, drop, ◌-◌, arith, sym, ap, ◌∙◌, subst, string_bytes, IsCharBoundary, append_assoc}
 use Rattle.rox_grammar.specs.Names.{slice}
 use Rattle.rox_grammar.specs.Exchange.{start_at, end_at, text_with, IsExchange}
 use Rattle.roxmltree.specs.DocumentView.{DocumentView}

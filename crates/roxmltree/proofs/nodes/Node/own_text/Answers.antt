@@ -1,5 +1,4 @@
-use Rattle.std.proofs.Common.{ℕ, List, sym, subst, arith}
-use Rattle.std.specs.Str.{IsCharBoundary}
+use Rattle.std.proofs.Common.{ℕ, List, sym, subst, arith, IsCharBoundary}
 use Rattle.roxmltree.specs.NodeRef.{id_of, document_of, tree_of}
 use Rattle.roxmltree.proofs.Sliced.{starts, stops, cut}
 use Rattle.roxmltree.proofs.Plain.{alone_tree, alone_contained}

@@ -1,5 +1,4 @@
-use Rattle.std.proofs.Common.{◌≡◌, length, ap, sym, ◌∙◌, List}
-use Rattle.std.proofs.lemmas.Bool.{eqb-true}
+use Rattle.std.proofs.Common.{◌≡◌, length, ap, sym, ◌∙◌, List, eqb-true}
 use Rattle.rox_grammar.specs.Written.{NamespaceDecl}
 use Rattle.rox_lists.specs.ExpandedNames.{first_prefix}
 use Rattle.roxmltree.proofs.Parts.{row_listed, row_no_listed, row_lists_nothing, element_within}
