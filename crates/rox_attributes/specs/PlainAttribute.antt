@@ -1,4 +1,4 @@
--- Attributes that the quick reader reads and puts into their table: their values refer to no declared entity.
+-- Attributes that the fast path reads and puts into their table: their values refer to no declared entity.
 use Rattle.std.specs.Prelude.{◌≡◌, ℕ, ◌+◌, ◌<◌, ◌≤◌, ◌^◌, Bool, true, false, List, Option, Some, Ok, drop, length, map, slice_index, IfSome, IfNone, IsCharBoundary}
 use Rattle.std.specs.List.{AllByRecursion}
 use Rattle.rox_grammar.specs.Written.{NamespaceDecl, is_namespace_decl, Name}

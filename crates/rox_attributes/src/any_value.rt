@@ -1,4 +1,4 @@
-//! Any attribute values by the quick reader, also those with references to characters or white space other than spaces. Only
+//! Any attribute values by the fast path, also those with references to characters or white space other than spaces. Only
 //! values that do not depend on context are read (XML 1.0 sections 3.3.3, 4.1 and 4.6). A predefined entity gives its character
 //! whether or not it is declared too.
 

@@ -1,4 +1,4 @@
-//! Attributes by the quick reader, put into their table, with their namespaces.
+//! Attributes by the fast path, put into their table, with their namespaces.
 #![tactic(auto)]
 
 pub mod any_value;

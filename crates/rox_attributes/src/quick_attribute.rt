@@ -1,5 +1,5 @@
-//! Attributes by the quick reader, put into their table: those whose values refer only to predefined entities (XML 1.0 sections
-//! 3.1 and 4.6). Nothing fails here: if an attribute is not read, the general reader reads its tag again, from its `<`.
+//! Attributes by the fast path, put into their table: those whose values refer only to predefined entities (XML 1.0 sections
+//! 3.1 and 4.6). Nothing fails here: if an attribute is not read, the general step reads its tag again, from its `<`.
 
 ghost use Rattle.std.specs.Prelude.{◌≡◌, ◌<◌, ◌+◌, ◌-◌, ◌==◌, IfSome, length, bytes_eq, false, []};
 ghost use Rattle.rox_bytes.specs.ScanResults.{EndsNear as StartsNear};

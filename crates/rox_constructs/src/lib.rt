@@ -1,4 +1,4 @@
-//! The constructs of content by the general reader, with their faults, each read into the builder.
+//! The constructs of content by the general step, with their faults, each read into the builder.
 #![tactic(auto)]
 
 pub mod constructs;

@@ -1,4 +1,4 @@
-//! Content by the quick reader: elements, one construct after another, and the start tag of the root element.
+//! Content by the fast path: elements, one construct after another, and the start tag of the root element.
 #![tactic(auto)]
 
 pub mod quick_content;

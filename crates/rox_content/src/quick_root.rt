@@ -1,4 +1,4 @@
-//! The start tag of a root element by the fast path, with its declarations. The general reader reads one that is not plain, from
+//! The start tag of a root element by the fast path, with its declarations. The general step reads one that is not plain, from
 //! its `<`.
 
 ghost use Rattle.std.specs.Prelude.{◌≡◌, IfOk, length, slice_index, true};

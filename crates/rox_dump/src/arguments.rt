@@ -7,7 +7,7 @@ use crate::numbers::number;
 use crate::options::{AnswerWord, Command, Options};
 use std::alloc::{AllocError, Global};
 
-/// What the program says where its words are wrong.
+/// What the program prints if its arguments are wrong.
 pub const USAGE: &str =
     "usage: xmldump [--allow-dtd] [--nodes-limit N] [--axes] [--lookups] [--batch] [--ans-file PATH] [--ans-none] \
 [--ans-err TEXT] [--main MAIN] FILE";
@@ -25,8 +25,8 @@ enum Change<'a> {
 }
 
 /// Reads the words after the program's name: `[--allow-dtd] [--nodes-limit N] [--axes] [--lookups] [--batch] [--ans-file PATH]
-/// [--ans-none] [--ans-err TEXT] [--main MAIN] FILE`, the options in any order. None is a wrong argument: an unknown word that
-/// begins with `-`, a limit that is no `u32`, no FILE or a second one. The only error is want of memory.
+/// [--ans-none] [--ans-err TEXT] [--main MAIN] FILE`, the options in any order. Returns `None` if an argument is wrong: an
+/// unknown word that begins with `-`, a limit that is not a `u32`, no FILE, or a second one.
 pub fn command(alloc: Global, words: &[String]) -> Result<Option<Command<'_>>, AllocError>
     ensures { IfOk result (λ c. option_map meaning c ≡ command_of (map string_bytes words.now)) }
 {
@@ -42,7 +42,7 @@ pub fn command(alloc: Global, words: &[String]) -> Result<Option<Command<'_>>, A
     }
 }
 
-/// Where no option stands.
+/// Returns the command of no words: nothing is asked for, and there is no file.
 fn no_command<'a>(alloc: Global) -> Command<'a>
     ensures { meaning result ≡ nothing_asked }
 {
@@ -54,7 +54,7 @@ fn no_command<'a>(alloc: Global) -> Command<'a>
     }
 }
 
-/// What the first of these words asks for, and the words behind it. None where it is no option.
+/// Returns what the first option asks for, and the words after it, or `None` if the words do not start with an option.
 fn next_option(words: &[String]) -> Option<(Change<'_>, &[String])>
     ensures some { IfSome result (λ next. (a : CommandView)
         → command_with a (map string_bytes words.now)
@@ -72,7 +72,7 @@ fn next_option(words: &[String]) -> Option<(Change<'_>, &[String])>
     Some((change, rest))
 }
 
-/// What a word asks for alone. None where it is no such option.
+/// Returns what an option without a value asks for, or `None` if the word is not such an option.
 fn flag<'a>(word: &str) -> Option<Change<'a>>
     ensures { (a : CommandView) → option_map (changed a) result ≡ with_flag a word.now }
 {
@@ -86,7 +86,8 @@ fn flag<'a>(word: &str) -> Option<Change<'a>>
     }
 }
 
-/// What a word asks for with the one behind it. None where it is no such option.
+/// Returns what an option asks for with its value, the next word, or `None` if the word is not an option with a value, or the
+/// limit of nodes is not a `u32`.
 fn valued<'a>(word: &str, value: &'a str) -> Option<Change<'a>>
     ensures { (a : CommandView) → option_map (changed a) result ≡ with_value a word.now value.now }
 {
@@ -99,7 +100,7 @@ fn valued<'a>(word: &str, value: &'a str) -> Option<Change<'a>>
     }
 }
 
-/// The number of nodes that this word allows.
+/// Returns the limit of nodes that this word gives, or `None` if it is not a `u32` in decimal digits.
 fn limit(word: &str) -> Option<u32>
     ensures { result ≡ limit_of word.now }
 {
@@ -123,7 +124,8 @@ fn apply<'a>(command: &mut Command<'a>, change: Change<'a>) -> Result<(), AllocE
     Ok(())
 }
 
-/// The command with this file. None where the word is no file.
+/// Returns the command with this file, or `None` if the word begins with `-` and has more than that. The word `-` alone is
+/// standard input.
 fn file_command<'a>(command: Command<'a>, word: &'a str) -> Option<Command<'a>>
     ensures { option_map meaning result ≡ with_file (meaning command.entry) word.now }
 {

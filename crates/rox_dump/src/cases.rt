@@ -14,8 +14,8 @@ pub struct Case<'a> {
     pub rest: &'a [u8],
 }
 
-/// The first text of a batch: its length in decimal digits and a line feed stand before it, and a line feed behind it. None
-/// where the input does not begin so.
+/// Returns the first text of a batch, or `None` if the input does not start with one. Its length in decimal digits and a line
+/// feed are before it, and a line feed is after it.
 pub fn first_case(batch: &[u8]) -> Option<Case<'_>>
     ensures { MatchOption result ((text rest : List ℕ) → BeginsWith batch.now text rest → ⊥)
         (λ case. BeginsWith batch.now case.text.now case.rest.now) }
@@ -25,7 +25,7 @@ pub fn first_case(batch: &[u8]) -> Option<Case<'_>>
     split_text(behind, length)
 }
 
-/// What stands before the first line feed, and behind it.
+/// Returns the bytes before the first line feed and those after it, or `None` if there is no line feed.
 fn first_line(batch: &[u8]) -> Option<(&[u8], &[u8])>
     ensures { MatchOption result (IsOneLine batch.now)
         (λ parts. IsOneLine parts.0.now × (batch.now ≡ parts.0.now ++ (10 ∷ parts.1.now))) }
@@ -34,7 +34,7 @@ fn first_line(batch: &[u8]) -> Option<(&[u8], &[u8])>
     Some((&batch[..end], &batch[end + 1..]))
 }
 
-/// The number of these digits.
+/// Returns the number that these digits give, or `None` if they give none: see `number`.
 fn line_number(line: &[u8]) -> Option<usize>
     ensures { result ≡ number_of line.now }
 {
@@ -44,7 +44,7 @@ fn line_number(line: &[u8]) -> Option<usize>
     }
 }
 
-/// The first bytes, so many, which a line feed follows.
+/// Returns the first `count` bytes, and what follows the line feed after them, or `None` if there is no line feed there.
 fn split_text(bytes: &[u8], count: usize) -> Option<Case<'_>>
     ensures { MatchOption result
         ((text rest : List ℕ) → IsSplit bytes.now count text rest → ⊥)

@@ -1,4 +1,4 @@
-//! Texts as they are written: in printable ASCII alone.
+//! Texts as the dump writes them: in printable ASCII.
 
 ghost use Rattle.std.specs.Prelude.{◌≡◌, ◌<◌, false, OnOk};
 ghost use Rattle.std.specs.Fmt.{digit_glyph};
@@ -28,6 +28,7 @@ pub fn write_escaped<W: Write>(text: &str, out: &mut W) -> io::Result<()>
     Ok(())
 }
 
+/// Writes a byte as it is if `is_printable` is true for it, and otherwise as `\x` and two hexadecimal digits.
 fn write_byte<W: Write>(byte: u8, out: &mut W) -> io::Result<()>
     ensures { OnOk result (Appends (W.contents out.old) (W.contents out.new) (escaped_byte byte)) }
 {
@@ -38,18 +39,21 @@ fn write_byte<W: Write>(byte: u8, out: &mut W) -> io::Result<()>
     }
 }
 
+/// Returns whether the byte is written as it is: printable ASCII (U+0020 to U+007E) except `"` and `\`.
 fn is_printable(byte: u8) -> bool
     ensures { result ≡ is_printable byte }
 {
     matches!(byte, b' '..=b'~') && byte != b'"' && byte != b'\\'
 }
 
+/// Returns `\x` and the two hexadecimal digits of the byte, in lower case.
 fn hexadecimal(byte: u8) -> [u8; 4]
     ensures { result ≡ hexadecimal byte }
 {
     [b'\\', b'x', digit(byte / 16), digit(byte % 16)]
 }
 
+/// Returns the hexadecimal digit of a value below 16, in lower case.
 fn digit(value: u8) -> u8
     requires { value < 16 }
     ensures { result ≡ digit_glyph false value }

@@ -5,7 +5,7 @@ ghost use Rattle.std.specs.List.{list_all};
 ghost use Rattle.std.specs.Char.{is_ascii_digit};
 ghost use Rattle.rox_dump.specs.Numbers.{number_of};
 
-/// The number of these digits. None where there is none, another character, or a number past `usize::MAX`.
+/// Returns the number that these digits give, or `None` if there is no digit, another character, or a number past `usize::MAX`.
 pub fn number(digits: &str) -> Option<usize>
     ensures { result ≡ number_of digits.now }
 {
@@ -16,6 +16,7 @@ pub fn number(digits: &str) -> Option<usize>
     }
 }
 
+/// Returns whether the text has only ASCII digits.
 fn all_digits(text: &str) -> bool
     ensures { result ≡ list_all is_ascii_digit text.now }
 {

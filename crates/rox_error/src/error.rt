@@ -55,8 +55,8 @@ pub enum Error<'w> {
     NoRootNode,
     /// The text ends inside the root element, after its start tag.
     UnclosedRootNode,
-    /// `<?xml` and a space (U+0020) are not at the start of the text (XML 1.0 2.8). Without the space after it, `<?xml` starts a
-    /// processing instruction.
+    /// `<?xml` and a space (U+0020) are elsewhere than at the start of the text or of an answer (XML 1.0 2.8). Without the space
+    /// after it, `<?xml` starts a processing instruction.
     UnexpectedDeclaration(TextPos),
     /// The text has a document type declaration, and `ParsingOptions::allow_dtd` is false.
     DtdDetected,
@@ -77,7 +77,8 @@ pub enum Error<'w> {
     InvalidChar2(&'w str, u8, TextPos),
     /// A fixed text, such as `version`, is expected and missing. Keeps that text.
     InvalidString(&'w str, TextPos),
-    /// An ExternalID is expected and missing (XML 1.0 4.2.2).
+    /// The definition of an entity starts with `S` or `P`, but not with `SYSTEM` or `PUBLIC` (XML 1.0 4.2.2). If it starts with
+    /// another character that is not a quote, the error is `InvalidChar2`.
     InvalidExternalID(TextPos),
     /// The resolver refused a request. Keeps the position of the declaration that the request is for, and the words of the
     /// resolver.
@@ -86,7 +87,8 @@ pub enum Error<'w> {
     InvalidComment(TextPos),
     /// Character data contains `]]>` (XML 1.0 2.4).
     InvalidCharacterData(TextPos),
-    /// No construct of the grammar starts here.
+    /// No construct of the grammar starts here, or an `<!ELEMENT`, `<!ATTLIST` or `<!NOTATION` of the document type declaration that
+    /// starts here has no `>`.
     UnknownToken(TextPos),
     /// The text ends inside of a construct.
     UnexpectedEndOfStream,

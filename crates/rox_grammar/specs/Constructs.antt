@@ -71,8 +71,8 @@ pub record PairAt (src : List ℕ) (i : ℕ) : Type 0 where
   pub is_written : IsPair src i name name_end first_quote last_quote end
 
 -- A pair that starts with this text. It is nothing if the text is not at `i`. After the pair is white space, or none if `?>` or
--- the end of the source follows. Departures: the name may continue after the text, and the value may be any literal, where XML
--- 2.8 [24], [26], 4.3.3 [80], [81] and 2.9 [32] fix both.
+-- the end of the source follows. Departures: the name may continue after the text, and the value may have any Chars
+-- except `<` and its quote, where XML 2.8 [24], [26], 4.3.3 [80], [81] and 2.9 [32] fix both.
 pub data MayBePair (text : List ℕ) (src : List ℕ) (i : ℕ) : (j : ℕ) → Type 0 where
   is_pair : (name : Name) (n v e j : ℕ) → stands text src i ≡ true → IsPair src i name n v e j
       → (j < spaces_end src j) ⊎ ((text_at "?>" src j ≡ true) ⊎ (length src ≡ j)) → MayBePair text src i (spaces_end src j)

@@ -4,7 +4,7 @@ use Rattle.rox_storage.specs.Storage.{storage_bytes, is_borrowed}
 use Rattle.rox_storage.specs.declared.storage.StringStorage.{StringStorage}
 use Rattle.rox_rows.specs.declared.row.PI.{PI}
 
--- The bytes of a text, and whether they are a slice of the input.
+-- The bytes of a text, and whether it is `Borrowed`.
 abbrev pub stored : StringStorage → List ℕ × Bool
 stored s = (storage_bytes s, is_borrowed s)
 

@@ -5,10 +5,10 @@ ghost use Rattle.rox_measures.specs.Command.{meaning, AsksFor, with_file, Gives}
 
 use std::alloc::AllocError;
 
-/// What the program says where its words are wrong.
+/// What the program prints if its arguments are wrong.
 pub const USAGE: &str = "usage: benchmark FILE [SECONDS]";
 
-/// How many seconds are spent where the arguments do not say.
+/// The seconds that are spent if the arguments do not give a number.
 const SECONDS: u32 = 4;
 
 /// What the words after the program's name ask for.
@@ -16,12 +16,12 @@ const SECONDS: u32 = 4;
 pub struct Command {
     /// The file that is measured.
     pub file: String,
-    /// How many seconds are spent on its measures, about.
+    /// About how many seconds its measures take.
     pub seconds: u32,
 }
 
-/// Reads the words after the program's name: `FILE [SECONDS]`. None is a wrong argument: a FILE that begins with `-`,
-/// SECONDS that are no number below 2^32, or another count of words. The only error is want of memory.
+/// Reads the words after the program's name: `FILE [SECONDS]`. Returns `None` if an argument is wrong: a FILE that begins with
+/// `-`, SECONDS that are not a number below 2^32, or another count of words.
 pub fn read(words: &[String]) -> Result<Option<Command>, AllocError>
     ensures { IfOk result (λ c. AsksFor (map string_bytes words.now) (option_map meaning c)) }
 {
@@ -32,14 +32,14 @@ pub fn read(words: &[String]) -> Result<Option<Command>, AllocError>
     }
 }
 
-/// The number of seconds that a word gives.
+/// Returns the number of seconds that a word gives, or `None` if it is not a number below 2^32.
 fn seconds(word: &str) -> Option<u32>
     ensures { Gives word.now result }
 {
     word.parse().ok()
 }
 
-/// The command for a file, unless the word for it or for the seconds was wrong.
+/// Returns the command for a file, or `None` if `seconds` is `None` or the file's name begins with `-`.
 fn for_file(file: &String, seconds: Option<u32>) -> Result<Option<Command>, AllocError>
     ensures { IfOk result (λ c. option_map meaning c ≡ with_file (string_bytes file.now) seconds) }
 {

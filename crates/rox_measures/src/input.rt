@@ -5,7 +5,7 @@ use std::fs;
 use std::io::ErrorKind;
 use std::rt::Files;
 
-/// The bytes of a file.
+/// Returns the bytes of a file, or `CannotRead` if it cannot be read.
 pub fn read<R: Files + AllocGlobal>(rt: &R, path: &str) -> Result<Vec<u8>, ProgramError> {
     match fs::read(rt, path) {
         Ok(bytes) => Ok(bytes),

@@ -7,14 +7,14 @@ use roxmltree::Document;
 use std::alloc::Global;
 use std::rt::Files;
 
-/// How many bytes of text are parsed, about, where one text is shorter: the system counts memory in pages.
+/// About how many bytes of text are parsed, in copies if one text is shorter: the system counts memory in pages.
 const SAMPLE: usize = 4_000_000;
 
-/// How many documents are parsed at most.
+/// The maximum number of documents that are parsed.
 const MOST_COPIES: usize = 10_000;
 
-/// The bytes that a document of this text holds, or None where the system does not tell. A short text is parsed many times,
-/// all documents are kept, and the anonymous memory that the process has in use is read before and after. So what the
+/// Returns the bytes that a document of this text holds, or `None` if the system does not report them. A short text is parsed
+/// many times, all documents are kept, and the anonymous memory that the process uses is read before and after. So what the
 /// allocator keeps for itself is counted, and pages of a table that were never written to are not. This has to be the first
 /// parse of the process: memory that was freed before would be used again, and not be counted.
 pub fn held<R: Files + AllocGlobal>(rt: &R, text: &str) -> Result<Option<u64>, Fault> {
@@ -26,6 +26,7 @@ pub fn held<R: Files + AllocGlobal>(rt: &R, text: &str) -> Result<Option<u64>, F
     Ok(each(before, after, documents.len()))
 }
 
+/// Appends `copies` documents of the text.
 fn parse_copies<'t>(
     alloc: Global,
     text: &'t str,
@@ -38,13 +39,13 @@ fn parse_copies<'t>(
     Ok(())
 }
 
-// What each of so many took, of the bytes in use before and after.
+// Returns the bytes for each of `count` documents, from the bytes in use before and after, or `None` if one of the two is `None`.
 fn each(before: Option<u64>, after: Option<u64>, count: usize) -> Option<u64> {
     let taken = after?.saturating_sub(before?);
     Some(taken / count.max(1) as u64)
 }
 
-// The bytes of anonymous memory that the process has in use.
+// Returns the bytes of anonymous memory that the process uses, or `None` if the system does not report them.
 fn in_use<R: Files + AllocGlobal>(rt: &R) -> Result<Option<u64>, ProgramError> {
     match input::read(rt, "/proc/self/smaps_rollup") {
         Ok(table) => Ok(anonymous(&table)),
@@ -53,12 +54,14 @@ fn in_use<R: Files + AllocGlobal>(rt: &R) -> Result<Option<u64>, ProgramError> {
     }
 }
 
+/// Returns the bytes of anonymous memory in a table of the system, or `None` if the table does not have them.
 fn anonymous(table: &[u8]) -> Option<u64> {
     let table = str::from_utf8(table).ok()?;
     kibibytes(table, "Anonymous:")?.checked_mul(1024)
 }
 
-/// The number in the line of such a table that begins with this word, as in `Anonymous:   148 kB`.
+/// Returns the number in the first line of a table that begins with this word, as in `Anonymous:   148 kB`. Returns `None` if no
+/// line begins with it, or no number follows it.
 ///
 /// ```
 /// use rox_measures::memory::kibibytes;

@@ -83,7 +83,7 @@ abbrev pub NamespaceWithin : ℕ → AttributeNamespace → Type 0
 NamespaceWithin n (space.Listed i) = i < n
 NamespaceWithin n other = Unit {0}
 
--- What a row names is in the tables, which have these lengths, and a comment is a slice of the input.
+-- What a row names is in the tables, which have these lengths, and a comment is `Borrowed`.
 abbrev pub KindWithin : (attributes namespaces scopes : ℕ) → NodeKind → Type 0
 KindWithin attributes namespaces scopes (kind.Element e) =
     (e.attributes_from ≤ e.attributes_until) × (e.attributes_until ≤ attributes) × (e.scope < scopes) × OptionWithin namespaces (numbered_place e.namespace)

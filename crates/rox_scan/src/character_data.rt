@@ -368,7 +368,7 @@ pub fn raw_character_data<'input>(
     faulty_character_data(cursor)
 }
 
-/// Like `raw_character_data`, for character data with a fault.
+/// Like `raw_character_data`, for character data with a fault. It returns that fault.
 #[cold]
 #[inline(never)]
 #[tactic(auto, unfolding(rox_reading::specs::Values::raw_character_data_at))]

@@ -40,7 +40,8 @@ impl<'input> Namespace<'input> {
     }
 }
 
-/// Copies the namespace. The copy takes no memory if the URI is a slice of the input.
+/// Copies the namespace. The copy takes no memory if the URI is borrowed. No public clause says when it is, so a caller's proof
+/// has to allow that the copy fails.
 impl<'input> Clone for Namespace<'input> {
     ghost is_clone = { λ n copy. namespace_view copy ≡ namespace_view n };
 

@@ -1,4 +1,4 @@
-//! Character data, comments, processing instructions and CDATA sections by the quick reader.
+//! Character data, comments, processing instructions and CDATA sections by the fast path.
 #![tactic(auto)]
 
 pub mod quick_data;

@@ -21,7 +21,7 @@ pub struct SeenNames {
     pub near: usize,
     /// The owned values stored for sharing, of all tags; `None` before there is one.
     pub values: Option<Box<Recent>>,
-    /// Whether memory was refused for what the quick reader wanted to put.
+    /// Whether memory was refused for what the fast path wanted to put.
     pub lacking: bool,
 }
 

@@ -1,4 +1,4 @@
-//! Start tags by the general reader, which finds each fault in order.
+//! Start tags by the general step, which finds each fault in order.
 #![tactic(auto)]
 
 pub mod tag;

@@ -1,4 +1,4 @@
--- The bytes of a text, and whether they are a slice of the input.
+-- The bytes of a text, and whether it is `Borrowed`. No definition here says where the bytes of a `Borrowed` text are.
 use Rattle.std.specs.Prelude.{◌≡◌, ℕ, List, Bool, true, false}
 use Rattle.std.specs.Rc.{rc_str_bytes}
 use Rattle.rox_storage.specs.declared.storage.StringStorage.{StringStorage}
@@ -12,7 +12,7 @@ abbrev pub is_borrowed : StringStorage → Bool
 is_borrowed (Borrowed s) = true
 is_borrowed (Owned s) = false
 
--- Both texts have the same bytes, and both or neither are a slice of the input.
+-- Both texts have the same bytes, and both or neither are `Borrowed`.
 abbrev pub IsSameText : StringStorage → StringStorage → Type 0
 IsSameText s t = (storage_bytes t ≡ storage_bytes s) × (is_borrowed t ≡ is_borrowed s)
 

@@ -1,4 +1,4 @@
-//! Start tags by the quick reader: their attributes and declarations, read into the tables of their elements.
+//! Start tags by the fast path: their attributes and declarations, read into the tables of their elements.
 #![tactic(auto)]
 
 pub mod own_declaration;

@@ -1,4 +1,4 @@
-//! Declarations of the tag of a root element, by the quick reader: those that are plain, while they are few. Its scope lists them
+//! Declarations of the tag of a root element, by the fast path: those that are plain, while they are few. Its scope lists them
 //! (Namespaces in XML 1.0 section 3).
 
 ghost use Rattle.std.specs.Prelude.{◌≡◌, IfSome, length, true, IsCharBoundary};

@@ -1,5 +1,5 @@
-//! Start tags by the quick reader: those whose attribute values refer only to predefined entities (XML 1.0
-//! sections 3.1 and 4.6). Nothing fails here: the general reader reads a tag that is not plain, or finds no room, from its `<`.
+//! Start tags by the fast path: those whose attribute values refer only to predefined entities (XML 1.0
+//! sections 3.1 and 4.6). Nothing fails here: the general step reads a tag that is not plain, or finds no room, from its `<`.
 
 ghost use Rattle.std.specs.Prelude.{◌≡◌, ◌<◌, ◌+◌, ◌-◌, ◌==◌, Ok, IfSome, slice_index, true, false};
 ghost use Rattle.rox_grammar.specs.Failures.{name_view};

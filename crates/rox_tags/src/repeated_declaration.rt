@@ -1,4 +1,4 @@
-//! Start tags, below the root element, that have one declaration, before their attributes, by the quick reader. They are read if one
+//! Start tags, below the root element, that have one declaration, before their attributes, by the fast path. They are read if one
 //! of the last scopes lists just that declaration and what the parent lists: elements that are siblings often declare the same.
 //! Only the table of attributes changes then.
 

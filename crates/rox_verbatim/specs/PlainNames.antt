@@ -1,4 +1,4 @@
--- Names that the quick reader reads.
+-- Names that the fast path reads.
 use Rattle.std.specs.Prelude.{◌≡◌, ◌≢◌, ℕ, ◌+◌, ◌<◌, ◌≤◌, ◌==◌, ◌||◌, true, false, List, Option, Ok, length, slice_index, slice_range, IfSome, [], IfNone, IsCharBoundary}
 use Rattle.rox_grammar.specs.Chars.{is_name_start, is_part_char}
 use Rattle.rox_grammar.specs.Runs.{run_end, begins}

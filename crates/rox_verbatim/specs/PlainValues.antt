@@ -1,4 +1,4 @@
--- White space and attribute values that the quick reader reads.
+-- White space and attribute values that the fast path reads.
 use Rattle.std.specs.Prelude.{◌≡◌, ℕ, ◌+◌, ◌-◌, ◌<◌, ◌≤◌, ◌==◌, ◌||◌, true, List, Ok, length, slice_index, slice_range, IsCharBoundary}
 use Rattle.rox_grammar.specs.Names.{spaces_end}
 use Rattle.rox_grammar.specs.Content.{is_verbatim_value}

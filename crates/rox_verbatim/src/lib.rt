@@ -1,4 +1,4 @@
-//! Names of attributes, white space in tags, and values of attributes as they are written, by the quick reader: they are read from
+//! Names of attributes, white space in tags, and values of attributes as they are written, by the fast path: they are read from
 //! the source alone.
 #![tactic(auto)]
 

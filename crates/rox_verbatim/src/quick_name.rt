@@ -1,4 +1,4 @@
-//! Names by the quick reader, which reads only valid ones and reports no fault (Namespaces in XML section 4).
+//! Names by the fast path, which reads only valid ones and reports no fault (Namespaces in XML section 4).
 
 ghost use Rattle.std.specs.Prelude.{◌≡◌, ◌<◌, ◌-◌, ◌==◌, ◌||◌, Ok, IfSome, true, false, [], IsCharBoundary};
 ghost use Rattle.rox_grammar.specs.Runs.{begins};

@@ -1,4 +1,4 @@
-//! White space in tags by the quick reader: most often it is one space.
+//! White space in tags by the fast path: most often it is one space.
 
 ghost use Rattle.std.specs.Str.{IsCharBoundary};
 ghost use Rattle.rox_bytes.specs.ScanResults.{Finds};

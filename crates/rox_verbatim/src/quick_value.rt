@@ -1,4 +1,4 @@
-//! Attribute values by the quick reader: where a value starts, and where one ends that needs no replacement (XML 1.0 [10]).
+//! Attribute values by the fast path: where a value starts, and where one ends that needs no replacement (XML 1.0 [10]).
 
 ghost use Rattle.std.specs.Prelude.{◌≡◌, ◌<◌, ◌≤◌, ◌+◌, ◌-◌, ◌==◌, ◌||◌, IfSome, length, slice_range, true, IsCharBoundary};
 ghost use Rattle.rox_verbatim.specs.PlainValues.{BeginsValue, EndsVerbatim, HasPlainValue, HasQuoteBefore, IsQuoteAt, IsQuoteBehindEquals, IsValueStart, SeesEnd, SeesStart, SeesValue};

@@ -51,12 +51,12 @@ abbrev pub pi_of : Node → Option (List ℕ × Option (List ℕ))
 pi_of (PI start end target value) = Some (target, value)
 pi_of other = None
 
--- The text of a text node, and whether it is a slice of the input.
+-- The text of a text node, and whether it is `Borrowed`.
 abbrev pub text_content : Node → Option (List ℕ × Bool)
 text_content (Text start end value borrowed) = Some (value, borrowed)
 text_content other = None
 
--- The text of a text node or a comment, and whether it is a slice of the input. That of a comment always is.
+-- The text of a text node or a comment, and whether it is `Borrowed`. That of a comment always is.
 abbrev pub content_of : Node → Option (List ℕ × Bool)
 content_of (Text start end value borrowed) = Some (value, borrowed)
 content_of (Comment start end text) = Some (text, true)

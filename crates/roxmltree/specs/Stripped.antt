@@ -22,7 +22,7 @@ stripped_row start end (kind.Text value) = Text start end (storage_bytes value) 
 stripped_row start end (kind.Comment text) = Comment start end (storage_bytes text)
 stripped_row start end (kind.PI pi) = PI start end pi.target.now (option_map (λ v. v.now) pi.value)
 
--- The text of a text node's or a comment's row, and whether it is a slice of the input.
+-- The text of a text node's or a comment's row, and whether it is `Borrowed`.
 abbrev pub content_in : NodeKind → Option (List ℕ × Bool)
 content_in (kind.Text value) = Some (stored value)
 content_in (kind.Comment text) = Some (stored text)
