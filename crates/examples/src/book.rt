@@ -29,10 +29,18 @@ fn print_book(rt: &HostRuntime, file: &str, text: &str, chapters: &[Chapter]) ->
     }
 }
 
-/// Reads the files of these names that lie beside the book.
+/// Returns whether a name is that of a file beside the book. Others are refused: a book must not read any file of the system.
+fn is_beside(name: &str) -> bool {
+    !name.contains('/') && name != ".."
+}
+
+/// Reads the files of these names, which are to be beside the book.
 fn read_chapters(rt: &HostRuntime, book: Path<'_>, names: &[String]) -> Result<Vec<Chapter>> {
     let mut chapters = Vec::new(rt.alloc());
     for name in names {
+        if !is_beside(name.as_str()) {
+            bail!("{name}: a chapter has to be beside the book");
+        }
         let path = book.with_file_name(rt.alloc(), name.as_str())?;
         let text = fs::read_to_string(rt, path).context(format_args!("reading {name}"))?;
         let name = name.clone()?;

@@ -229,8 +229,8 @@ impl<'a, 'input> Node<'a, 'input> {
         }
     }
 
-    /// Returns the prefix of the first listed namespace with this URI, or `None` if it is the default or there is none. The URI
-    /// of `xml` gives `xml` on every node (Namespaces in XML 1.0 section 3).
+    /// Returns `xml` for the URI of `xml` (Namespaces in XML 1.0 section 3), and for another URI the prefix of the first listed
+    /// namespace with it, or `None` if that is the default or there is none.
     ///
     /// ```
     /// let document = Document::parse(alloc, "<r xmlns='urn:d' xmlns:p='urn:p'/>")?;
