@@ -28,7 +28,8 @@ abbrev pub Reply : Type 0
 Reply = Result (Option (List ℕ)) (List ℕ)
 
 -- An answer is a text, or none. By XML 4.5 the replacement text is what follows its byte order mark (4.3.3) and its declaration
--- (4.3.1).
+-- (4.3.1). Departure: that declaration is read also if nothing refers to the entity, where 2.1 requires only parsed entities that
+-- are referenced to be well formed.
 pub data GivesReplacement : Option (List ℕ) → Option Replacement → Type 0 where
   nothing : GivesReplacement None None
   the_rest : (text : List ℕ) (d : ℕ) → IsUtf8 text → MayHaveXmlDecl text (after_bom text) d → GivesReplacement (Some text) (Some (record { source = drop d text; start = 0 }))

@@ -1,4 +1,5 @@
--- The tree of a document as its readers see it: each name with its namespace (XML Information Set 2).
+-- The tree of a document as its readers see it: each name with its namespace (XML Information Set 2). Departure: the root node
+-- also has the comments and processing instructions of the document type declaration as children, which 2.1 leaves out.
 use Rattle.std.specs.Prelude.{ℕ, Bool, not, List, [], ◌∷◌, ◌++◌, Option, Some, None, bytes_eq, filter, map, if◌then◌else◌, codes}
 use Rattle.std.specs.List.{list_any}
 use Rattle.std.specs.Option.{option_eq}

@@ -33,7 +33,7 @@ pub struct AttributeAnswers<'a, 'input> {
     pub namespace: Option<&'a str>,
     pub name: &'input str,
     pub value: &'a str,
-    /// The value is a slice of the input.
+    /// Whether the value is `Borrowed`.
     pub borrowed: bool,
 }
 
