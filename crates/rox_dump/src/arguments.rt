@@ -124,8 +124,7 @@ fn apply<'a>(command: &mut Command<'a>, change: Change<'a>) -> Result<(), AllocE
     Ok(())
 }
 
-/// Returns the command with this file, or `None` if the word begins with `-` and has more than that. The word `-` alone is
-/// standard input.
+/// Returns the command with this file, or `None` if the word begins with `-`. But `-` alone is standard input.
 fn file_command<'a>(command: Command<'a>, word: &'a str) -> Option<Command<'a>>
     ensures { option_map meaning result ≡ with_file (meaning command.entry) word.now }
 {

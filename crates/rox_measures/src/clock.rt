@@ -3,8 +3,8 @@
 use crate::fault::Fault;
 use std::time::CpuClock;
 
-/// Returns the processor time that the process has used, in nanoseconds. Other load on the machine disturbs it less than the
-/// time of day.
+/// Returns the processor time that the process has used, in nanoseconds. Other load on the machine changes it less than it
+/// changes the time that passes.
 pub fn now<R: CpuClock>(clock: &R) -> Result<u64, Fault> {
     match clock.process_cpu_time() {
         Ok(time) => u64::try_from(time.as_nanos()).map_err(|_| Fault::NoClock),
