@@ -16,6 +16,7 @@ import shutil
 import subprocess
 import sys
 import time
+from pathlib import Path
 
 HERE = os.path.dirname(os.path.dirname(os.path.realpath(__file__)))
 # The repository of the programs: this one, unless another is named.
@@ -43,6 +44,12 @@ def print_usage(text):
     """Ends a tool that does not take the words it was given: its usage on standard error, and status 2."""
     print(f"usage: {text}", file=sys.stderr)
     sys.exit(2)
+
+
+def stop(why, count=1):
+    """Ends a tool that can try nothing: why, a last line by which so many failed, and status 1."""
+    print(f"{why}\n0 passed, {count} failed")
+    sys.exit(1)
 
 
 def in_repository(words):
@@ -178,6 +185,16 @@ def stands(kind, name):
     """Whether a program stands that was made from what the sources are now."""
     was = read(f"{place(kind, name)}.sum")
     return bool(was) and os.access(place(kind, name), os.X_OK) and was == made_from(kind, name)
+
+
+def proved_programs(name):
+    """Where a proved program of this repository stands, and what Rattle's own compiler made of it, if that is there. One that does not
+    stand is proved and built first."""
+    if subprocess.run([f"{HERE}/tools/prove", name]).returncode:
+        stop(f"there is no proved {name}")
+    program = Path(HERE, "out/proved", name)
+    other = program.with_name(f"{name}.by-rattle")
+    return [program, other] if other.exists() else [program]
 
 
 def standing(name):
