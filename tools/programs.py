@@ -163,6 +163,20 @@ def touched(paths, since):
     return False
 
 
+def are_built(libraries):
+    """Whether `rt ci` or `rt lib` has built these libraries, each after those below it, since it fits only what it was built over, and
+    neither a source nor the kit was touched since the first of them was built."""
+    uses, built, paths = read_crates(), {}, [f"{kit()}/KIT-ID", f"{TOP}/crates.txt"]
+    for it in libraries:
+        folder = f"{TOP}/crates/{it}"
+        if not os.path.isdir(f"{folder}/out/rlib/{it}.rlib"):
+            return False
+        built[it] = os.lstat(f"{folder}/out/rlib/{it}.rlib").st_ctime_ns
+        paths += [f"{folder}/{part}" for part in PARTS["proved"] if os.path.isdir(f"{folder}/{part}")]
+    is_in_order = all(built[below] < built[it] for it in built for below in uses[it] if below in uses)
+    return is_in_order and not touched(paths, min(built.values(), default=0))
+
+
 def read(file):
     with contextlib.suppress(FileNotFoundError), open(file, encoding="utf-8") as it:
         return it.read()
