@@ -213,7 +213,9 @@ fn print_at<M: Display + Drop>(
     let before = (place.col as usize).saturating_sub(1);
     let line = text.lines().nth(row).unwrap_or("");
     // a byte order mark takes no place in a terminal
-    let skipped = before.saturating_sub(60).max(line.starts_with('\u{FEFF}') as usize);
+    let skipped = before
+        .saturating_sub(60)
+        .max(line.starts_with('\u{FEFF}') as usize);
     let shown = shown_part(rt.alloc(), line, skipped)?;
     let indent = indent_below(rt.alloc(), line, skipped, before)?;
     println!(rt; "{file}:{place}: {message}\n{shown}\n{indent}^")
