@@ -1,13 +1,12 @@
 //! Reading of a text from its start to its end (XML 1.0 sections 2.1, 2.8).
 
-ghost use Rattle.std.specs.Prelude.{◌≡◌, ◌∷◌, [], IfOk, IfErr, length};
+ghost use Rattle.std.specs.Prelude.{◌≡◌, ◌∷◌, [], IfOk, IfErr, length, true};
 ghost use Rattle.rox_builder.specs.BuilderState.{IsConsistent, tables_of};
 ghost use Rattle.rox_rows.specs.Rows.{node_rows};
 ghost use Rattle.rox_rows.specs.declared.row.NodeKind.TheVariants as kind;
 ghost use Rattle.rox_builder.specs.Outcomes.{ParsesAs};
 ghost use Rattle.rox_builder.specs.Readiness.{MayReadTag};
 ghost use Rattle.rox_reading.specs.Machine as machine;
-ghost use Rattle.rox_prolog.specs.Asking.{MayReadAsking};
 ghost use Rattle.rox_prolog.specs.Requests.{Allows, MayAsk};
 ghost use Rattle.rox_build.specs.Built.{Built, BuiltRefusal};
 ghost use Rattle.rox_build.specs.TextParts.{ReadsBody, ReadsDocument, ReadsRest};
@@ -98,7 +97,8 @@ fn document<'input, R: EntityResolver<'input>>(
     allow: bool,
     resolver: &Option<R>,
 ) -> Result<bool, ParseError<'input>>
-    requires { MayReadAsking R.can_resolve resolver.now builder.old }
+    requires may { allow ≡ true → MayAsk R.can_resolve resolver.now }
+    requires fine { IsConsistent builder.old.tables builder.old.opened.items }
     ensures { ReadsDocument (Allows R.allows resolver.now) allow cursor.old builder.old builder.new
         result }
 {
@@ -146,7 +146,7 @@ pub fn build<'input, R: EntityResolver<'input>>(
     resolver: &Option<R>,
     builder: &mut Builder<'input>,
 ) -> Result<bool, ParseError<'input>>
-    requires may { MayAsk R.can_resolve resolver.now }
+    requires may { allow ≡ true → MayAsk R.can_resolve resolver.now }
     requires begun { IsBegun (length text.now) builder.old }
     ensures ok { IfOk result
         (λ dtd. Built builder.old.nodes_limit allow

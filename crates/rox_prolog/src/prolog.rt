@@ -1,8 +1,8 @@
 //! The prolog: the XML declaration, the document type declaration, and what is around them (XML 1.0 section 2.8 [22] prolog).
 
+ghost use Rattle.std.specs.Prelude.{◌≡◌, true};
 ghost use Rattle.rox_builder.specs.BuilderState.{IsConsistent};
-ghost use Rattle.rox_prolog.specs.Asking.{MayReadAsking};
-ghost use Rattle.rox_prolog.specs.Requests.{Allows};
+ghost use Rattle.rox_prolog.specs.Requests.{Allows, MayAsk};
 ghost use Rattle.rox_prolog.specs.PrologParts.{ReadsDoctype, ReadsStart};
 
 use crate::dtd::document_type;
@@ -29,7 +29,7 @@ pub fn prolog_start<'input>(
 }
 
 /// Reads the document type declaration, if it is at the cursor, and the comments, processing instructions and white space after
-/// it. Returns whether it is there.
+/// it. Returns whether it is there. The resolver is asked only if `allow` is true.
 pub fn doctype<'input, R: EntityResolver<'input>>(
     cursor: &mut Cursor<'input>,
     builder: &mut Builder<'input>,
@@ -37,7 +37,8 @@ pub fn doctype<'input, R: EntityResolver<'input>>(
     allow: bool,
     resolver: &Option<R>,
 ) -> Result<bool, ParseError<'input>>
-    requires { MayReadAsking R.can_resolve resolver.now builder.old }
+    requires may { allow ≡ true → MayAsk R.can_resolve resolver.now }
+    requires fine { IsConsistent builder.old.tables builder.old.opened.items }
     ensures { ReadsDoctype (Allows R.allows resolver.now) allow cursor.old cursor.new builder.old
         builder.new entities.old entities.new result }
 {

@@ -60,7 +60,8 @@ impl Default for ParsingOptions<NoResolver> {
 impl<R> ParsingOptions<R> {
     ghost use Rattle.std.specs.Prelude.{◌≡◌, Some, false};
 
-    /// Returns the default options with this resolver. It is asked only if `allow_dtd` is set (tests show this, no clause says it).
+    /// Returns the default options with this resolver. It is asked only if `allow_dtd` is set: by the premise `may` of
+    /// `Document::parse_with_options`.
     ///
     /// ```
     /// let resolver = ResolveWith::new(|_public_id, _uri| Ok(Some("hello")));

@@ -72,10 +72,10 @@ impl<'input> Document<'input> {
     /// is true (XML 1.0 section 2.8). At most `opt.nodes_limit` nodes are allowed, the root node included. The key of the
     /// document is `opt.document_key`.
     ///
-    /// The resolver, if there is one, has to allow being asked (`can_resolve`). It is asked for the external entities that a
-    /// declaration declares (XML 1.0 section 4.2.2). The tree is that of the text with some answers, each of which the
-    /// resolver's relation `allows` (`is_parse`). Only tests show that each declaration is asked for once, in order, and that
-    /// these answers are the given ones.
+    /// If document type declarations are allowed, the resolver, if there is one, has to allow being asked (`can_resolve`).
+    /// Otherwise it is not asked (`may`). It is asked for the external entities that a declaration declares (XML 1.0 section
+    /// 4.2.2). The tree is that of the text with some answers, each of which the resolver's relation `allows` (`is_parse`).
+    /// Only tests show that each declaration is asked for once, in order, and that these answers are the given ones.
     ///
     /// `Error::OutOfMemory` says nothing about the text. `Error::EntityResolver` has words with which the resolver may refuse a
     /// request, and the position of that request (`resolver`). For any other error there are allowed answers to what the text
@@ -97,7 +97,7 @@ impl<'input> Document<'input> {
         text: &'input str,
         opt: ParsingOptions<R>,
     ) -> Result<Document<'input>, Error<'w>>
-        requires may { MayAsk R.can_resolve opt.entity_resolver }
+        requires may { opt.allow_dtd ≡ true → MayAsk R.can_resolve opt.entity_resolver }
         ensures is_parse { IfOk result (λ document. (asked : List Asked)
             × AreAllowed (Allows R.allows opt.entity_resolver) asked
             × Permits opt.allow_dtd document.dtd
@@ -135,7 +135,7 @@ fn read<'input, 'w, R: EntityResolver<'input> + Drop>(
     text: &'input str,
     opt: ParsingOptions<R>,
 ) -> Result<Document<'input>, Error<'w>>
-    requires may { MayAsk R.can_resolve opt.entity_resolver }
+    requires may { opt.allow_dtd ≡ true → MayAsk R.can_resolve opt.entity_resolver }
     ensures document { IfOk result
         (λ document. IsReadDocument opt.nodes_limit opt.allow_dtd
         (Allows R.allows opt.entity_resolver) text.now opt.document_key document) }

@@ -89,4 +89,4 @@ returns g c = record {
 }
 
 pub document_type-requires : goal.document_type-requires
-document_type-requires g c = grind arith
+document_type-requires g c = let may = c.requires.may c.if-not-allow.false in grind (arith, may)
