@@ -1,9 +1,9 @@
-"""What the programs of this repository are made from, and where they stand.
+"""What the programs of this repository are made from, and where they are.
 
-A program is `proved` or `compiled`, without proof, and stands in `out/proved` or `out/compiled`; beside it NAME.sum has a sum of all
-that it was made from. It is written elsewhere and renamed, and the sum comes last: one without its sum counts for nothing.
-`out/NAME.runs` says which of the two a start runs, and which files were looked at for that: while none of them is touched, the next
-start runs it without looking at their contents.
+A program is `proved`, and in `out/proved`, or it is `compiled` without proof, and in `out/compiled`. Beside it NAME.sum has a
+checksum of all that it was made from. A program is written elsewhere and renamed, and its checksum is written last: a program
+without its checksum is not run. `out/NAME.runs` says which of the two a start runs, and which files were looked at for that.
+While none of these files is touched, the next start runs the program without looking at their contents.
 """
 
 import contextlib
