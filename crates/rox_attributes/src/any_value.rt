@@ -2,13 +2,15 @@
 //! values that do not depend on context are read (XML 1.0 sections 3.3.3, 4.1 and 4.6). A predefined entity gives its character
 //! whether or not it is declared too.
 
-ghost use Rattle.std.specs.Prelude.{◌≤◌, IfSome, true, length, string_bytes};
+ghost use Rattle.std.specs.Prelude.{◌≤◌, IfSome, true, length, string_bytes, ◌<◌, false, ◌≡◌, ◌==◌, slice_index};
 ghost use Rattle.rox_bytes.specs.ByteSets.{EndsSet, is_stretch_byte};
 ghost use Rattle.rox_storage.specs.Storage.{IsOwnText};
 ghost use Rattle.rox_scan.specs.Lookahead as longer;
-ghost use Rattle.rox_scan.specs.Lookahead.{IsLookahead, none_changes};
-ghost use Rattle.rox_attributes.specs.SpacedBytes.{FindsEnds, IsAnyValue};
-ghost use Rattle.rox_verbatim.specs.PlainValues.{BeginsValue};
+ghost use Rattle.rox_scan.specs.Lookahead.{IsLookahead, none_changes, ends_value};
+ghost use Rattle.rox_attributes.specs.SpacedBytes.{IsAnyValue};
+ghost use Rattle.rox_verbatim.specs.PlainValues.{BeginsValue, EndsVerbatim};
+ghost use Rattle.rox_reading.specs.Values.{is_special};
+ghost use Rattle.rox_values.specs.PlainBits.{HasChange};
 
 use rox_bytes::byte_set::{ValueByte, skip_set};
 use rox_bytes::runs::is_at;
@@ -65,7 +67,14 @@ struct ValueEnds {
 #[inline(always)]
 fn value_ends(text: &str, start: usize, quote: u8) -> Option<ValueEnds>
     requires { BeginsValue text.now start quote }
-    ensures { FindsEnds text.entry.now start quote result }
+    ensures plain { IfSome result (λ e. e.end ≤ e.first
+        → EndsVerbatim text.entry.now start quote e.end) }
+    ensures looked { IfSome result (λ e. e.first < e.end
+        → IsLookahead (ends_value quote text.entry.now) is_special text.entry.now start e.end
+        false) }
+    ensures change { IfSome result (λ e. e.first < e.end
+        → HasChange text.entry.now start e.first e.end) }
+    ensures here { IfSome result (λ e. (slice_index text.entry.now e.end == quote) ≡ true) }
 {
     let near = skip_set::<ValueByte>(text, start);
     if is_at(text, near, quote) {

@@ -1,24 +1,19 @@
 -- What the calls of the builder require, and how they change it.
-use Rattle.std.specs.Prelude.{◌≡◌, ℕ, ◌+◌, ◌-◌, ◌∷◌, [], ◌<◌, ◌≤◌, ◌^◌, true, false, Bool, List, OnOk, IfOk, IfErr, Result, Ok, length, take, vec_len, vec_capacity}
+use Rattle.std.specs.Prelude.{◌≡◌, ℕ, ◌-◌, ◌∷◌, [], ◌<◌, true, false, Bool, List, OnOk, IfOk, Result, Ok, length, take, vec_len, vec_capacity}
 use Rattle.std.specs.declared.alloc.AllocError.{AllocError}
 use Rattle.rox_grammar.specs.Forest.{Forest, Nil, Cons, join}
 use Rattle.rox_grammar.specs.State.{Open, inside, root, scope_of}
 use Rattle.rox_grammar.specs.Written.{Element, Item, Tag, Text, merge}
-use Rattle.rox_grammar.specs.declared.failure.Failure.{Failure}
-use Rattle.rox_grammar.specs.declared.failure.Failure.TheVariants as failure
-use Rattle.rox_grammar.specs.declared.fault.Fault.TheVariants as fault
 use Rattle.rox_reading.specs.Machine.{with_item}
 use Rattle.rox_reading.specs.State.{State}
 use Rattle.rox_reading.specs.Values.{ReadText}
 use Rattle.rox_rows.specs.Rows.{attribute_rows, node_rows}
 use Rattle.rox_scopes.specs.Scopes.{PrefixesOnce}
-use Rattle.rox_rows.specs.StoredNodes.{IsSmallKind}
 use Rattle.rox_rows.specs.declared.row.NodeKind.{NodeKind}
 use Rattle.rox_rows.specs.declared.row.NodeKind.TheVariants as kind
-use Rattle.rox_builder.specs.BuilderState.{Adds, IsConsistent, IsReady, IsReadyTo, KeepsOpen, KeepsState, KeepsTables, Represents, RepresentsFlushed, names_in}
+use Rattle.rox_builder.specs.BuilderState.{Adds, IsConsistent, IsReadyTo, KeepsOpen, KeepsState, KeepsTables, Represents, names_in}
 use Rattle.rox_names.specs.TagScopes.{scope_in_tables}
-use Rattle.rox_builder.specs.Outcomes.{AddsNode, AddsText, OpensElement}
-use Rattle.rox_builder.specs.PendingText.{waiting}
+use Rattle.rox_builder.specs.Outcomes.{AddsNode, OpensElement}
 use Rattle.rox_builder.specs.Readiness.{IsApart, MayPutRow}
 use Rattle.rox_names.specs.SpelledNames.{SpellsName, long_name}
 use Rattle.rox_builder.specs.declared.builder.Builder.{Builder}
@@ -39,12 +34,6 @@ pub record IsInnermostScope (b : Builder) (n : ℕ) : Type 0 where
   pub value : IsConsistent b.tables b.opened.items → (end : ℕ) (stack : Open) (done : Forest Item) → Represents end stack done b → scope_in_tables b.tables n ≡ scope_of stack
   pub within : IsConsistent b.tables b.opened.items → n < length b.tables.scopes.items
   pub once : IsConsistent b.tables b.opened.items → PrefixesOnce (scope_in_tables b.tables n)
-
--- One more node is allowed, or the fault is that it is one too many.
-pub record MayHaveMore (b : Builder) (result : Result (Unit {0}) Failure) : Type 0 where
-  pub ok : OnOk result (vec_len b.nodes.rows + waiting b.pending < b.nodes_limit)
-  pub few : OnOk result (vec_len b.nodes.rows + waiting b.pending + 1 < 2 ^ 32)
-  pub err : IfErr result (λ e. (e ≡ failure.Fault fault.NodesLimitReached) × (b.nodes_limit ≤ vec_len b.nodes.rows + waiting b.pending))
 
 -- Character data ended.
 pub record EndsRun (old new : Builder) (result : Result (Unit {0}) AllocError) : Type 0 where
@@ -73,32 +62,6 @@ pub record AddsWaiting (old new : Builder) (result : Result Bool AllocError) (it
   pub other : IfOk result (λ yes. yes ≡ false → KeepsState old new)
   pub kept : KeepsOpen old new
 
--- The piece has its row, for which there was room.
-pub record PutsText (old new : Builder) (item : Item) : Type 0 where
-  pub adds : AddsText old new (Ok tt) item
-  pub rows : vec_len new.nodes.rows ≡ vec_len old.nodes.rows + 1
-  pub ready : (most : ℕ) → IsReadyTo most old → IsReadyTo most new
-
--- No text may continue.
-pub record Settles (old new : Builder) : Type 0 where
-  pub ok : (end : ℕ) (stack : Open) (done : Forest Item) → Represents end stack done old → RepresentsFlushed end stack done new
-  pub nodes : new.nodes ≡ old.nodes
-  pub kept : KeepsOpen old new
-  pub empty : new.pending ≡ pending.None
-
--- There is room for the row of a node without descendants, from `i` up to `j`.
-pub record MayPutLeaf (b : Builder) (above i j : ℕ) (k : NodeKind) : Type 0 where
-  pub row : MayPutRow b above i
-  pub end : j < 2 ^ 32
-  pub small : IsSmallKind k
-
--- There is room for the row of a processing instruction, from `i` up to `j`, and for its text.
-pub record MayPutInstruction (b : Builder) (i j : ℕ) : Type 0 where
-  pub ready : IsReady 1 b
-  pub start : i < 2 ^ 32
-  pub end : j < 2 ^ 32
-  pub more : vec_len b.nodes.instructions < vec_capacity b.nodes.instructions
-
 -- The node has its row.
 pub record PutsLeaf (old new : Builder) (i j : ℕ) (k : NodeKind) : Type 0 where
   pub adds : AddsNode old new (Ok tt) i j k
@@ -122,13 +85,3 @@ pub record Closes (old new : Builder) (result : Result (Unit {0}) AllocError) (e
       → Represents total up (join before (Cons (Element start end t) (merge done) Nil)) new)
   pub kept : KeepsTables old new
   pub opened : OnOk result (new.opened.items ≡ take (length old.opened.items - 1) old.opened.items)
-
--- An element may end at `j`, and no text waits for its row.
-pub record MayPutClose (b : Builder) (j : ℕ) : Type 0 where
-  pub settled : waiting b.pending ≡ 0
-  pub short : j < 2 ^ 32
-
--- The element ended at `j`, and took no room.
-pub record PutsClose (old new : Builder) (j : ℕ) : Type 0 where
-  pub closes : Closes old new (Ok tt) j
-  pub ready : (most : ℕ) → IsReadyTo most old → IsApart most new

@@ -1,5 +1,5 @@
 -- What is required where something is read: of the offset, of the builder, and of the room.
-use Rattle.std.specs.Prelude.{◌≡◌, ◌≢◌, ◌<◌, ◌+◌, ◌^◌, ℕ, true, List, length, slice_index, vec_len, IsCharBoundary}
+use Rattle.std.specs.Prelude.{◌≡◌, ◌<◌, ◌+◌, ◌^◌, ℕ, true, List, length, slice_index, IsCharBoundary}
 use Rattle.rox_grammar.specs.FixedTexts.{word_text}
 use Rattle.rox_grammar.specs.Search.{stands}
 use Rattle.rox_grammar.specs.declared.fault.Word.{Word}
@@ -36,16 +36,6 @@ pub record MayReadMarkup (c : Cursor) (b : Builder) : Type 0 where
   pub here : slice_index c.text.now c.pos ≡ 60
   pub fine : IsConsistent b.tables b.opened.items
 
--- `<!` is at the cursor, and what the builder holds is consistent.
-pub record MayReadDeclared (c : Cursor) (b : Builder) : Type 0 where
-  pub markup : MayReadMarkup c b
-  pub next : slice_index c.text.now (c.pos + 1) ≡ 33
-
--- `<` is at the cursor, a byte other than `/` follows it, and what the builder holds is consistent.
-pub record MayReadOpening (c : Cursor) (b : Builder) : Type 0 where
-  pub markup : MayReadMarkup c b
-  pub no_end_tag : slice_index c.text.now (c.pos + 1) ≢ 47
-
 -- Character data may be read up to `until`, and what the builder holds is consistent.
 pub record MayReadTo (until : ℕ) (c : Cursor) (b : Builder) : Type 0 where
   pub stop : IsCharBoundary c.text.now until
@@ -55,18 +45,6 @@ pub record MayReadTo (until : ℕ) (c : Cursor) (b : Builder) : Type 0 where
 pub record MayReadAt (src : List ℕ) (i : ℕ) (b : Builder) : Type 0 where
   pub cut : IsCharBoundary src i
   pub room : HasRoom src b
-
--- There is room for the row of a text from `i` up to `j`, and no text may continue that would touch it.
-pub record MayPutText (b : Builder) (i j : ℕ) : Type 0 where
-  pub ready : IsReady 1 b
-  pub apart : b.pending ≡ pending.None
-  pub start : i < 2 ^ 32
-  pub end : j < 2 ^ 32
-
--- One more row fits, and its parent is the row `above`, of the innermost open element or of the root node.
-pub record MayMakeRow (b : Builder) (above : ℕ) : Type 0 where
-  pub small : vec_len b.nodes.rows + 1 < 2 ^ 32
-  pub parent : above ≡ last_row (opened_in b.tables b.opened.items)
 
 -- There is room for a row that starts at `i`. Its parent is the row `above`, of the innermost open element or of the root node.
 pub record MayPutRow (b : Builder) (above i : ℕ) : Type 0 where

@@ -101,15 +101,18 @@ fn kept_name<'input>(text: &'input str, tag: &StartTag<'input>) -> (u32, &'input
 }
 
 impl<'input> Builder<'input> {
-    ghost use Rattle.std.specs.Prelude.{List, ◌-◌, true, Ok, Err, vec_capacity};
+    ghost use Rattle.std.specs.Prelude.{List, ◌-◌, true, Ok, Err, IfErr, vec_capacity};
+    ghost use Rattle.rox_grammar.specs.declared.failure.Failure.TheVariants as failure;
+    ghost use Rattle.rox_grammar.specs.declared.fault.Fault.TheVariants as fault;
+    ghost use Rattle.rox_rows.specs.StoredNodes.{IsSmallKind};
     ghost use Rattle.rox_grammar.specs.Forest.{Forest};
     ghost use Rattle.rox_grammar.specs.Written.{Item, Element, merge, leaf};
     ghost use Rattle.rox_grammar.specs.State.{Open, root, is_root};
     ghost use Rattle.rox_reading.specs.Machine.{counted};
-    ghost use Rattle.rox_builder.specs.BuilderState.{Represents, AreSound, IsReady, opened_in, last_row, tables_of};
+    ghost use Rattle.rox_builder.specs.BuilderState.{Represents, AreSound, IsReady, IsReadyTo, opened_in, last_row, tables_of};
     ghost use Rattle.rox_builder.specs.Outcomes.{AddsNode, OpensElement};
-    ghost use Rattle.rox_builder.specs.Putting.{Closes, IsInnermostScope, IsOfRoot, KeepsRows, MayHaveMore, MayPutClose, MayPutInstruction, MayPutLeaf, MayPutOpen, PutsClose, PutsLeaf, PutsOpen};
-    ghost use Rattle.rox_builder.specs.Readiness.{MayMakeRow};
+    ghost use Rattle.rox_builder.specs.Readiness.{IsApart, MayPutRow};
+    ghost use Rattle.rox_builder.specs.Putting.{Closes, IsInnermostScope, IsOfRoot, KeepsRows, MayPutOpen, PutsLeaf, PutsOpen};
     ghost use Rattle.rox_names.specs.Tables.{HoldsTree};
     ghost use Rattle.rox_grammar.specs.Tree.{document_tree};
     ghost use Rattle.rox_names.specs.declared.open_element.OpenElement.{OpenElement};
@@ -218,7 +221,12 @@ impl<'input> Builder<'input> {
     /// Returns an error exactly if one more node would be too many.
     #[inline(always)]
     pub(crate) fn room(&self) -> Result<(), Failure>
-        ensures { MayHaveMore self.now result }
+        ensures ok { OnOk result
+            (vec_len self.now.nodes.rows + waiting self.now.pending < self.now.nodes_limit) }
+        ensures few { OnOk result
+            (vec_len self.now.nodes.rows + waiting self.now.pending + 1 < 2 ^ 32) }
+        ensures err { IfErr result (λ e. (e ≡ failure.Fault fault.NodesLimitReached)
+            × (self.now.nodes_limit ≤ vec_len self.now.nodes.rows + waiting self.now.pending)) }
     {
         if self.count() >= self.nodes_limit as usize {
             return Err(Failure::Fault(Fault::NodesLimitReached));
@@ -236,7 +244,8 @@ impl<'input> Builder<'input> {
         end: usize,
         kind: NodeKind<'input>,
     ) -> NodeData<'input>
-        requires { MayMakeRow self.now parent }
+        requires small { vec_len self.now.nodes.rows + 1 < 2 ^ 32 }
+        requires parent { parent ≡ last_row (opened_in self.now.tables self.now.opened.items) }
         ensures { result ≡ record {
           start = start;
           end = end;
@@ -358,7 +367,9 @@ impl<'input> Builder<'input> {
     /// the innermost open element or of the root node.
     #[inline(always)]
     pub fn put_leaf(&mut self, parent: u32, start: usize, end: usize, kind: NodeKind<'input>)
-        requires { MayPutLeaf self.old parent start end kind }
+        requires row { MayPutRow self.old parent start }
+        requires end { end < 2 ^ 32 }
+        requires small { IsSmallKind kind }
         ensures { PutsLeaf self.old self.new start end kind.entry }
     {
         self.settle();
@@ -369,7 +380,11 @@ impl<'input> Builder<'input> {
     /// Like `put_leaf`, but puts a processing instruction, for which there is room in its own table too.
     #[inline(always)]
     pub fn put_instruction(&mut self, start: usize, end: usize, instruction: PI<'input>)
-        requires { MayPutInstruction self.old start end }
+        requires ready { IsReady 1 self.old }
+        requires start { start < 2 ^ 32 }
+        requires end { end < 2 ^ 32 }
+        requires more { vec_len self.old.nodes.instructions < vec_capacity
+            self.old.nodes.instructions }
         ensures { PutsLeaf self.old self.new start end (kind.PI instruction.entry) }
     {
         self.settle();
@@ -403,8 +418,10 @@ impl<'input> Builder<'input> {
     /// Closes the innermost open element at `end`. No text waits for its row.
     #[inline(always)]
     pub fn put_close(&mut self, end: usize)
-        requires { MayPutClose self.old end }
-        ensures { PutsClose self.old self.new end }
+        requires settled { waiting self.old.pending ≡ 0 }
+        requires short { end < 2 ^ 32 }
+        ensures closes { Closes self.old self.new (Ok tt) end }
+        ensures ready { (most : ℕ) → IsReadyTo most self.old → IsApart most self.new }
     {
         self.settle();
         if let Some(element) = self.opened.pop() {

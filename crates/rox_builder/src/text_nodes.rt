@@ -1,6 +1,6 @@
 //! Text nodes: adjacent pieces of character data are one text, which waits for its row while it may continue.
 
-ghost use Rattle.std.specs.Prelude.{◌<◌, ◌≤◌, ◌+◌, ◌≡◌, ◌≢◌, [], ℕ, List, length, is_some, IfOk, OnOk, string_bytes};
+ghost use Rattle.std.specs.Prelude.{◌<◌, ◌≤◌, ◌+◌, ◌≡◌, ◌≢◌, [], ℕ, List, length, is_some, IfOk, OnOk, string_bytes, ◌^◌, vec_len};
 ghost use Rattle.rox_rows.specs.StoredNodes.{kind_of};
 ghost use Rattle.rox_rows.specs.declared.row.NodeKind.TheVariants as kind;
 ghost use Rattle.rox_builder.specs.TakenText.{MayTakeLast, TakesLast};
@@ -82,14 +82,15 @@ fn storage_of<'input>(
 
 impl<'input> Builder<'input> {
     ghost use Rattle.std.specs.Prelude.{◌-◌, false, true, Ok};
-    ghost use Rattle.rox_grammar.specs.Written.{Text};
+    ghost use Rattle.rox_grammar.specs.Forest.{Forest};
+    ghost use Rattle.rox_grammar.specs.State.{Open};
+    ghost use Rattle.rox_grammar.specs.Written.{Item, Text};
     ghost use Rattle.rox_reading.specs.State.{State};
     ghost use Rattle.rox_reading.specs.Machine.{with_piece};
     ghost use Rattle.rox_builder.specs.DataParts.{HasPart};
-    ghost use Rattle.rox_builder.specs.BuilderState.{Represents, Adds, KeepsOpen};
+    ghost use Rattle.rox_builder.specs.BuilderState.{Represents, RepresentsFlushed, Adds, IsReady, IsReadyTo, KeepsOpen};
     ghost use Rattle.rox_builder.specs.Outcomes.{AddsText, Flushes};
-    ghost use Rattle.rox_builder.specs.Putting.{AddsWaiting, EndsRun, JoinsText, PutsText, Settles};
-    ghost use Rattle.rox_builder.specs.Readiness.{MayPutText};
+    ghost use Rattle.rox_builder.specs.Putting.{AddsWaiting, EndsRun, JoinsText};
 
     /// Writes the text that may continue, if there is one.
     #[inline(always)]
@@ -294,7 +295,11 @@ impl<'input> Builder<'input> {
     #[inline(always)]
     pub(crate) fn settle(&mut self)
         requires { waiting self.old.pending ≡ 0 }
-        ensures { Settles self.old self.new }
+        ensures ok { (end : ℕ) (stack : Open) (done : Forest Item)
+            → Represents end stack done self.old → RepresentsFlushed end stack done self.new }
+        ensures nodes { self.new.nodes ≡ self.old.nodes }
+        ensures kept { KeepsOpen self.old self.new }
+        ensures empty { self.new.pending ≡ pending.None }
     {
         self.pending = Pending::None;
     }
@@ -302,8 +307,14 @@ impl<'input> Builder<'input> {
     /// Puts a text. No text may continue, and there is room for its row.
     #[inline(always)]
     pub fn put_text(&mut self, start: usize, end: usize, text: StringStorage<'input>)
-        requires { MayPutText self.old start end }
-        ensures { PutsText self.old self.new (Text start end (storage_bytes text.entry) (is_borrowed text.entry)) }
+        requires ready { IsReady 1 self.old }
+        requires apart { self.old.pending ≡ pending.None }
+        requires start { start < 2 ^ 32 }
+        requires end { end < 2 ^ 32 }
+        ensures adds { AddsText self.old self.new (Ok tt)
+            (Text start end (storage_bytes text.entry) (is_borrowed text.entry)) }
+        ensures rows { vec_len self.new.nodes.rows ≡ vec_len self.old.nodes.rows + 1 }
+        ensures ready { (most : ℕ) → IsReadyTo most self.old → IsReadyTo most self.new }
     {
         let row = self.row(start, end, NodeKind::Text(text));
         self.nodes.put(row);

@@ -83,12 +83,6 @@ pub record EndsEased (p : ℕ → Bool) (src : List ℕ) (i j : ℕ) : Type 0 wh
   pub passes : (k : ℕ) → i ≤ k → k < j → passes_eased p src k ≡ true
   pub stops : j < length src → (p (slice_index src j) && not (slice_index src j == 239)) ≡ false
 
--- There are at least sixteen bytes, and at most sixteen of them from `i` on.
-pub record EndsInBlock (src : List ℕ) (i : ℕ) : Type 0 where
-  pub room : 16 ≤ length src
-  pub short : length src ≤ i + 16
-  pub within : i ≤ length src
-
 -- The bytes from `i` up to `j` pass `p`, and the byte at `j`, if there is one, does not.
 pub record EndsSet (p : ℕ → Bool) (src : List ℕ) (i j : ℕ) : Type 0 where
   pub onward : i ≤ j

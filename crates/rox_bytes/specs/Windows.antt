@@ -14,11 +14,6 @@ pub record Sees (src : List ℕ) (w : Window) : Type 0 where
   pub parts : IsSeen is_part_byte src w.at w.parts
   pub values : IsSeen is_value_byte src w.at w.values
 
--- A window has the masks of both sets from `at` on.
-pub record SeesFrom (src : List ℕ) (at : ℕ) (w : Window) : Type 0 where
-  pub sees : Sees src w
-  pub place : w.at ≡ at
-
 -- A value starts `before` bytes after the start of the window, right after the first byte that is not a value byte.
 pub record SeesQuote (src : List ℕ) (w : Window) (before : ℕ) : Type 0 where
   pub sees : Sees src w

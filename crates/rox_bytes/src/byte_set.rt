@@ -1,6 +1,6 @@
 //! Runs of plain bytes, sixteen at a time: the first look at names, values, character data and comments.
 
-ghost use Rattle.std.specs.Prelude.{IfSome, ◌≡◌, ◌+◌, ◌<◌, ◌≤◌, ℕ, Bool, not, map, take, drop, length, IsCharBoundary};
+ghost use Rattle.std.specs.Prelude.{IfSome, ◌≡◌, ◌+◌, ◌<◌, ◌≤◌, ℕ, Bool, not, map, take, drop, length, IsCharBoundary, true, slice_index, false};
 ghost use Rattle.std.specs.Int.{w64, trailing_zeros};
 ghost use Rattle.std.specs.Simd.Lanes.{mask_l};
 ghost use Rattle.rox_grammar.specs.Chars as spec;
@@ -9,7 +9,7 @@ ghost use Rattle.rox_bytes.specs.ByteSets as near;
 ghost use Rattle.rox_bytes.specs.ByteSets.{EndsEased, EndsSet, StopsSet, eased, is_part_byte};
 ghost use Rattle.rox_bytes.specs.Windows.{IsSeen};
 ghost use Rattle.rox_bytes.specs.RunEnds.{EndsRun};
-ghost use Rattle.rox_bytes.specs.ScanResults.{EndsNear, Finds, TellsAscii};
+ghost use Rattle.rox_bytes.specs.ScanResults.{EndsNear, Finds};
 
 use crate::chars::{Class, PartChar};
 use crate::nibbles::{by_low, classes};
@@ -441,7 +441,8 @@ pub fn skip_eased<C: ByteSet>(text: &str, at: usize) -> usize
 /// Returns whether an ASCII byte is at `at`, or no byte is.
 #[inline(always)]
 fn is_ascii_at(text: &str, at: usize) -> bool
-    ensures { TellsAscii text.now at result }
+    ensures ascii { result ≡ true → at < length text.now → slice_index text.now at < 128 }
+    ensures wide { result ≡ false → (at < length text.now) × (128 ≤ slice_index text.now at) }
 {
     let bytes = text.as_bytes();
     at >= bytes.len() || bytes[at] < 128

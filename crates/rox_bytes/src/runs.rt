@@ -1,7 +1,8 @@
 //! Runs of characters.
-ghost use Rattle.std.specs.Prelude.{◌≡◌, ◌==◌, ◌+◌, ◌<◌, slice_index, IsCharBoundary, chars};
-ghost use Rattle.rox_grammar.specs.Runs.{run_end, begins};
-ghost use Rattle.rox_bytes.specs.ScanResults.{Finds, HasByteAt, HasCharAt, IsCharAt};
+ghost use Rattle.std.specs.Prelude.{◌≡◌, ◌==◌, ◌+◌, ◌<◌, slice_index, IsCharBoundary, chars, drop};
+ghost use Rattle.rox_grammar.specs.Runs.{run_end, begins, StandsAt};
+ghost use Rattle.rox_bytes.specs.ScanResults.{Finds, HasCharAt};
+ghost use Rattle.std.specs.Char.{len_utf8};
 
 use crate::chars::Class;
 
@@ -9,7 +10,9 @@ use crate::chars::Class;
 #[inline]
 pub fn char_at(text: &str, at: usize) -> char
     requires { HasCharAt text.now at }
-    ensures { IsCharAt text.now at result }
+    ensures stands { StandsAt result text.now at }
+    ensures first { result ≡ slice_index (chars (drop at text.now)) 0 }
+    ensures cut { IsCharBoundary text.now (at + len_utf8 result) }
 {
     match text[at..].chars().next() {
         Some(c) => c,
@@ -72,7 +75,9 @@ pub fn is_at(text: &str, at: usize, byte: u8) -> bool
 /// Returns the offset after the byte `byte`, which is at `at`.
 #[inline(always)]
 pub fn after_byte(text: &str, at: usize, byte: u8) -> usize
-    requires { HasByteAt text.now at byte }
+    requires some { 0 < byte }
+    requires ascii { byte < 128 }
+    requires here { slice_index text.now at ≡ byte }
     ensures { Finds text.now at result (at + 1) }
 {
     at + 1

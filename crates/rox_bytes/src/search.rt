@@ -1,9 +1,10 @@
 //! The first offset of a byte or of a fixed text.
-ghost use Rattle.std.specs.Prelude.{◌≡◌, ◌+◌, ◌<◌, ◌≤◌, ◌||◌, ◌==◌, not, length};
+ghost use Rattle.std.specs.Prelude.{◌≡◌, ◌+◌, ◌<◌, ◌≤◌, ◌||◌, ◌==◌, not, length, IsCharBoundary};
 ghost use Rattle.rox_grammar.specs.Search as spec;
 ghost use Rattle.rox_reading.specs.Lexical.{has_mark};
 ghost use Rattle.rox_bytes.specs.ByteSets.{EndsSet};
-ghost use Rattle.rox_bytes.specs.ScanResults.{Finds, FindsAscii, FindsByte, MaySeek, MaySeekEither};
+ghost use Rattle.rox_bytes.specs.ScanResults.{Finds, FindsByte};
+ghost use Rattle.rox_grammar.specs.Search.{byte_from};
 
 use memchr::{memchr, memchr2};
 
@@ -69,8 +70,10 @@ pub fn has_mark(bytes: &[u8], mark: &[u8]) -> bool
 #[inline]
 #[tactic(auto, unfolding(rox_grammar::specs::Search::byte_from))]
 pub fn byte_from(text: &str, at: usize, byte: u8) -> usize
-    requires { MaySeek text.now at byte }
-    ensures { FindsAscii text.now at byte result }
+    requires cut { IsCharBoundary text.now at }
+    requires ascii { byte < 128 }
+    ensures finds { Finds text.now at result (byte_from (λ c. c == byte) text.now at) }
+    ensures after { result < length text.now → IsCharBoundary text.now (result + 1) }
 {
     at + before_byte(text[at..].as_bytes(), byte)
 }
@@ -79,7 +82,9 @@ pub fn byte_from(text: &str, at: usize, byte: u8) -> usize
 #[inline]
 #[tactic(auto, unfolding(rox_grammar::specs::Search::byte_from))]
 pub fn either_from(text: &str, at: usize, one: u8, other: u8) -> usize
-    requires { MaySeekEither text.now at one other }
+    requires cut { IsCharBoundary text.now at }
+    requires one { one < 128 }
+    requires other { other < 128 }
     ensures { Finds text.now at result
         (spec.byte_from (λ c. c == one || c == other) text.now at) }
 {

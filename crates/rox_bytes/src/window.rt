@@ -1,8 +1,8 @@
 //! Sixteen bytes of a tag, tested in one pass: an attribute's name, and its value or as much of it as is among them.
 
-ghost use Rattle.std.specs.Prelude.{◌≤◌, ◌+◌, ◌<◌, ℕ, List, MatchOption, length};
+ghost use Rattle.std.specs.Prelude.{◌≤◌, ◌+◌, ◌<◌, ℕ, List, MatchOption, length, ◌≡◌};
 ghost use Rattle.rox_bytes.specs.ByteSets.{AllPass, EndsSet, is_part_byte, is_value_byte};
-ghost use Rattle.rox_bytes.specs.Windows.{Sees, SeesFrom, SeesQuote};
+ghost use Rattle.rox_bytes.specs.Windows.{Sees, SeesQuote};
 
 use crate::byte_set::{ByteSet, PartByte, ValueByte, before_first};
 use std::simd::prelude::*;
@@ -25,7 +25,8 @@ impl Window {
     #[inline(always)]
     pub fn new(text: &str, at: usize) -> Window
         requires { at + 16 ≤ length text.now }
-        ensures { SeesFrom text.now at result }
+        ensures sees { Sees text.now result }
+        ensures place { result.at ≡ at }
     {
         let bytes = text.as_bytes();
         let block = u8x16::from_slice(&bytes[at..]);

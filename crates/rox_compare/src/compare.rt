@@ -1,7 +1,8 @@
 //! Equality of short texts.
 
-ghost use Rattle.std.specs.Prelude.{◌≡◌, ◌≤◌, ◌<◌, ◌+◌, length, bytes_eq, slice_range};
-ghost use Rattle.rox_compare.specs.Words.{HasLength, IsLongWord, IsWord};
+ghost use Rattle.std.specs.Prelude.{◌≡◌, ◌≤◌, ◌<◌, ◌+◌, length, bytes_eq, slice_range, ◌^◌};
+ghost use Rattle.rox_compare.specs.Words.{HasLength};
+ghost use Rattle.std.specs.Int.{w64, from_le_bytes, to_le_bytes, w32};
 
 /// The length in bytes from which on the comparison of the standard library is used.
 pub const LONG: usize = 16;
@@ -19,7 +20,9 @@ pub const STRETCH: usize = 16;
 #[inline(always)]
 pub fn word_at(bytes: &[u8], at: usize) -> u64
     requires { at + 4 ≤ length bytes.now }
-    ensures { IsWord bytes.now at result }
+    ensures value { result ≡ from_le_bytes w32 (slice_range bytes.now at (at + 4)) }
+    ensures back { to_le_bytes w32 result ≡ slice_range bytes.now at (at + 4) }
+    ensures small { result < 2 ^ 32 }
 {
     u32::from_le_bytes([bytes[at], bytes[at + 1], bytes[at + 2], bytes[at + 3]]) as u64
 }
@@ -57,7 +60,8 @@ pub fn same_words(pair: Pair<'_, '_>) -> bool
 #[inline(always)]
 fn long_word_at(bytes: &[u8], at: usize) -> u64
     requires { at + 8 ≤ length bytes.now }
-    ensures { IsLongWord bytes.now at result }
+    ensures value { result ≡ from_le_bytes w64 (slice_range bytes.now at (at + 8)) }
+    ensures back { to_le_bytes w64 result ≡ slice_range bytes.now at (at + 8) }
 {
     u64::from_le_bytes([
         bytes[at],

@@ -1,7 +1,7 @@
 //! The constructs that have delimiters, each read into the builder: comments, processing instructions, CDATA sections and tags
 //! (XML 1.0 sections 2.5, 2.6, 2.7, 3.1).
 
-ghost use Rattle.std.specs.Prelude.{◌≡◌, ◌<◌, ◌+◌, ℕ};
+ghost use Rattle.std.specs.Prelude.{◌≡◌, ◌<◌, ◌+◌, ℕ, slice_index, ◌≢◌};
 ghost use Rattle.rox_grammar.specs.declared.fault.Word.TheVariants as word;
 ghost use Rattle.rox_reading.specs.Machine as machine;
 ghost use Rattle.rox_grammar.specs.Forest.{Forest};
@@ -13,7 +13,7 @@ ghost use Rattle.rox_builder.specs.BuilderState.{Represents};
 ghost use Rattle.rox_names.specs.OpenElements.{HasName};
 ghost use Rattle.rox_names.specs.SpelledNames.{bytes_view};
 ghost use Rattle.rox_builder.specs.Outcomes.{ParsesAs, ScansAs, ScansIn, ScansWithin, SpansOpen};
-ghost use Rattle.rox_builder.specs.Readiness.{MayRead, MayReadDeclared, MayReadOpening, MayReadTag};
+ghost use Rattle.rox_builder.specs.Readiness.{MayRead, MayReadTag, MayReadMarkup};
 
 use crate::misc::{comment, instruction};
 use crate::parsed::parsed;
@@ -48,7 +48,8 @@ fn comment_or_section<'input>(
     cursor: &mut Cursor<'input>,
     builder: &mut Builder<'input>,
 ) -> Result<(), Failure>
-    requires { MayReadDeclared cursor.old builder.old }
+    requires markup { MayReadMarkup cursor.old builder.old }
+    requires next { slice_index cursor.old.text.now (cursor.old.pos + 1) ≡ 33 }
     ensures { ScansIn machine.step cursor.old cursor.new builder.old builder.new result }
 {
     if cursor.starts(Word::CommentStart) {
@@ -182,7 +183,8 @@ pub fn markup<'input>(
     builder: &mut Builder<'input>,
     context: Context<'_, 'input>,
 ) -> Result<(), ParseError<'input>>
-    requires { MayReadOpening cursor.old builder.old }
+    requires markup { MayReadMarkup cursor.old builder.old }
+    requires no_end_tag { slice_index cursor.old.text.now (cursor.old.pos + 1) ≢ 47 }
     ensures { ParsesAs machine.step context.entry cursor.old cursor.new builder.old builder.new
         result }
 {

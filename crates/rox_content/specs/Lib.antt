@@ -1,3 +1,2 @@
 pub mod PlainElements
 pub mod RootTag
-pub mod SameFronts

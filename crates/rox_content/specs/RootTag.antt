@@ -1,5 +1,5 @@
 -- The start tag of a root element that the fast path reads, with its declarations.
-use Rattle.std.specs.Prelude.{◌≡◌, ◌≢◌, ℕ, ◌<◌, ◌^◌, List, [], ◌∷◌, ◌++◌, Option, Some, None, length, map, slice_index, IfSome, Ok, OnOk, Result}
+use Rattle.std.specs.Prelude.{◌≡◌, ◌≢◌, ℕ, ◌<◌, ◌^◌, List, [], ◌∷◌, ◌++◌, Option, Some, None, length, map, IfSome, Ok, OnOk, Result}
 use Rattle.rox_reading.specs.Machine as machine
 use Rattle.rox_reading.specs.State.{State}
 use Rattle.rox_rows.specs.Rows.{AttributeRow, attribute_rows}
@@ -8,7 +8,7 @@ use Rattle.rox_names.specs.TagScopes.{lists_in}
 use Rattle.rox_names.specs.declared.tables.ElementTables.{ElementTables}
 use Rattle.rox_scan.specs.declared.cursor.Cursor.{Cursor}
 use Rattle.rox_tags.specs.PlainTag.{IsPlainTag}
-use Rattle.rox_tags.specs.TagAttributes.{AreNoBindings, BeginsRoot, first_places}
+use Rattle.rox_tags.specs.TagAttributes.{AreNoBindings, first_places}
 use Rattle.rox_starts.specs.TagReadiness.{MayReadBelow}
 use Rattle.rox_tags.specs.declared.quick_tag.PlainTag.{PlainTag}
 use Rattle.rox_builder.specs.BuilderState.{GoesOn, IsInState, ScansTo}
@@ -50,12 +50,6 @@ pub record IsReadFirst (old new : ElementTables) (src : List ℕ) (i : ℕ) (t :
 abbrev pub GivesRootTag : (old new : ElementTables) (src : List ℕ) (i : ℕ) → Option PlainTag → Type 0
 GivesRootTag old new src i None = HoldAlike old new
 GivesRootTag old new src i (Some t) = IsReadFirst old new src i t
-
--- The start tag of a root element may be read from its `<` at `i`.
-pub record MayReadRootTag (src : List ℕ) (i : ℕ) (t : ElementTables) : Type 0 where
-  pub here : slice_index src i ≡ 60
-  pub short : length src < 2 ^ 32
-  pub begins : BeginsRoot t
 
 -- Nothing is listed, and the only scope is that of the root node.
 pub record BeginsScopes {E : Type 0} (old new : ElementTables) (result : Result (Unit {0}) E) : Type 0 where

@@ -1,9 +1,10 @@
 //! Plain constructs of content, read by the fast path one after another: what `quick_data`, `quick_elements` and `quick_sections`
 //! read. Nothing fails here: the general step reads a construct that is not plain, or finds no room, from its first byte.
 
-ghost use Rattle.std.specs.Prelude.{◌≡◌, true};
+ghost use Rattle.std.specs.Prelude.{◌≡◌, true, ◌<◌, ℕ};
 ghost use Rattle.rox_builder.specs.Outcomes.{MayStep};
-ghost use Rattle.rox_sections.specs.PlainOutcomes.{MayReadPlain, MayReadRows, ReadsMarkup, ReadsRows, ReadsStep, StandsApart};
+ghost use Rattle.rox_sections.specs.PlainOutcomes.{MayReadPlain, ReadsRows, ReadsStep, StandsApart};
+ghost use Rattle.rox_builder.specs.BuilderState.{IsReady, IsConsistent, IsReadyTo};
 
 use crate::quick_elements::{
     close_element, element_in_scope, element_of_name, element_of_part, element_without_prefix,
@@ -32,8 +33,12 @@ fn quick_markup<'input>(
     open_around: usize,
 ) -> bool
     requires { MayReadPlain cursor.old builder.old }
-    ensures { ReadsMarkup (λ k. k.open_around ≡ open_around) cursor.old cursor.new builder.old
+    ensures reads { ReadsStep (λ k. k.open_around ≡ open_around) cursor.old cursor.new builder.old
         builder.new result }
+    ensures ready { result ≡ true → (most : ℕ) → IsReadyTo most builder.old
+        → IsReadyTo most builder.new }
+    ensures apart { result ≡ true → StandsApart cursor.new builder.new }
+    ensures moves { result ≡ true → cursor.old.pos < cursor.new.pos }
 {
     let bytes = cursor.text.as_bytes();
     if cursor.pos + 1 >= bytes.len() {
@@ -84,7 +89,8 @@ pub fn quick_constructs<'input>(
     main: bool,
     rows: usize,
 ) -> bool
-    requires { MayReadRows rows builder.old }
+    requires ready { 0 < rows → IsReady rows builder.old }
+    requires fine { IsConsistent builder.old.tables builder.old.opened.items }
     ensures { ReadsRows open_around main cursor.old cursor.new builder.old builder.new result }
 {
     let mut here = *cursor;

@@ -1,13 +1,15 @@
 //! Plain start tags of elements and end tags, read by the fast path. The general step reads a tag that is not plain, or finds no
 //! room, from its first byte.
 
-ghost use Rattle.std.specs.Prelude.{◌≡◌, true};
+ghost use Rattle.std.specs.Prelude.{◌≡◌, true, slice_index, IsCharBoundary, ◌+◌, ◌<◌};
 ghost use Rattle.rox_reading.specs.Machine as machine;
 ghost use Rattle.rox_reading.specs.Refusals.{lifted};
 ghost use Rattle.rox_builder.specs.Outcomes.{ReadsAt};
-ghost use Rattle.rox_builder.specs.Readiness.{IsApart};
-ghost use Rattle.rox_sections.specs.PlainOutcomes.{MayReadBare, MayReadEnd, MayReadAscii, MayReadFirst, MayReadPart, MayReadPrefixed, ReadsIf, any_context};
+ghost use Rattle.rox_builder.specs.Readiness.{IsApart, HasRoom};
+ghost use Rattle.rox_sections.specs.PlainOutcomes.{MayReadEnd, MayReadFirst, MayReadPart, ReadsIf, any_context};
 ghost use Rattle.rox_content.specs.PlainElements.{MayPutElement, PutsElement};
+ghost use Rattle.rox_verbatim.specs.PlainNames.{EndsNear, EndsPrefix};
+ghost use Rattle.rox_bytes.specs.ByteSets.{StopsSet, is_part_byte};
 
 use crate::same_front::closes_front;
 use rox_builder::builder::Builder;
@@ -64,7 +66,10 @@ pub fn element_of_name<'input>(
     builder: &mut Builder<'input>,
     near: usize,
 ) -> bool
-    requires { MayReadBare cursor.old near builder.old }
+    requires here { slice_index cursor.old.text.now cursor.old.pos ≡ 60 }
+    requires near { StopsSet is_part_byte cursor.old.text.now (cursor.old.pos + 1) near }
+    requires letter { 63 < slice_index cursor.old.text.now (cursor.old.pos + 1) }
+    requires room { HasRoom cursor.old.text.now builder.old }
     ensures { ReadsIf IsApart any_context machine.tag_step cursor.old cursor.new builder.old
         builder.new result }
 {
@@ -149,7 +154,10 @@ fn element_with_prefix<'input>(
     builder: &mut Builder<'input>,
     run: RunEnd,
 ) -> usize
-    requires { MayReadPrefixed text.now start run builder.old }
+    requires here { slice_index text.now start ≡ 60 }
+    requires start { IsCharBoundary text.now start }
+    requires prefix { EndsPrefix text.now (start + 1) run }
+    requires room { HasRoom text.now builder.old }
     ensures { ReadsAt machine.tag_step text.entry.now start result builder.old builder.new }
 {
     if !builder.has_room_to_open() {
@@ -240,7 +248,10 @@ pub fn element_without_prefix<'input>(
     builder: &mut Builder<'input>,
     near: usize,
 ) -> usize
-    requires { MayReadAscii text.now start near builder.old }
+    requires here { slice_index text.now start ≡ 60 }
+    requires start { IsCharBoundary text.now start }
+    requires near { EndsNear text.now (start + 1) near }
+    requires room { HasRoom text.now builder.old }
     ensures { ReadsAt machine.tag_step text.entry.now start result builder.old builder.new }
 {
     if !builder.has_room_to_open() {

@@ -1,9 +1,10 @@
 //! The start tag of a root element by the fast path, with its declarations. The general step reads one that is not plain, from
 //! its `<`.
 
-ghost use Rattle.std.specs.Prelude.{◌≡◌, IfOk, length, slice_index, true};
+ghost use Rattle.std.specs.Prelude.{◌≡◌, IfOk, length, slice_index, true, ◌<◌, ◌^◌};
 ghost use Rattle.rox_builder.specs.Readiness.{MayReadTag};
-ghost use Rattle.rox_content.specs.RootTag.{BeginsOwn, BeginsScopes, GivesRootTag, IsBlank, MayReadRootTag, ReadsRootElement, ReadsRootTag};
+ghost use Rattle.rox_content.specs.RootTag.{BeginsOwn, BeginsScopes, GivesRootTag, IsBlank, ReadsRootElement, ReadsRootTag};
+ghost use Rattle.rox_tags.specs.TagAttributes.{BeginsRoot};
 
 use rox_builder::builder::{Builder, ROOM_TO_OPEN};
 use rox_bytes::byte_set::part_end;
@@ -36,7 +37,9 @@ fn root_tag<'input>(
     elements: &mut ElementTables<'input>,
     seen: &mut SeenNames,
 ) -> Option<PlainTag<'input>>
-    requires { MayReadRootTag text.now start elements.old }
+    requires here { slice_index text.now start ≡ 60 }
+    requires short { length text.now < 2 ^ 32 }
+    requires begins { BeginsRoot elements.old }
     ensures { ReadsRootTag elements.old elements.new text.entry.now start result }
 {
     let name_start = after_byte(text, start, b'<');

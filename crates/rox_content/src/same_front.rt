@@ -1,7 +1,6 @@
 //! Comparison of bytes, sixteen at a time.
 
-ghost use Rattle.std.specs.Prelude.{◌≡◌, ◌<◌, ℕ, slice_index};
-ghost use Rattle.rox_content.specs.SameFronts.{ClosesFront, HaveSixteen};
+ghost use Rattle.std.specs.Prelude.{◌≡◌, ◌<◌, ℕ, slice_index, ◌≤◌, true, length, take};
 
 use rox_compare::compare::same_long;
 use std::simd::prelude::*;
@@ -9,7 +8,8 @@ use std::simd::prelude::*;
 /// Returns how many of the first sixteen bytes come before one that differs, or more than sixteen if none differs.
 #[inline(always)]
 fn same_count(one: &[u8], other: &[u8]) -> usize
-    requires { HaveSixteen one.now other.now }
+    requires one { 16 ≤ length one.now }
+    requires other { 16 ≤ length other.now }
     ensures { (k : ℕ) → k < 16 → k < result → slice_index one.now k ≡ slice_index other.now k }
 {
     let differ = u8x16::from_slice(one)
@@ -21,7 +21,10 @@ fn same_count(one: &[u8], other: &[u8]) -> usize
 /// Returns whether the first `count` bytes of both are equal, and followed by `>` in `other`.
 #[inline(always)]
 pub fn closes_front(one: &[u8], other: &[u8], count: usize) -> bool
-    ensures { ClosesFront one.now other.now count result }
+    ensures one { result ≡ true → count ≤ length one.now }
+    ensures same { result ≡ true → take count one.now ≡ take count other.now }
+    ensures there { result ≡ true → count < length other.now }
+    ensures closed { result ≡ true → slice_index other.now count ≡ 62 }
 {
     if count < 16 && one.len() >= 16 && other.len() >= 16 {
         return other[count] == b'>' && count <= same_count(one, other);

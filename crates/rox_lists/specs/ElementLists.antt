@@ -4,13 +4,12 @@ use Rattle.std.specs.Coded.{Coded, coded_list}
 use Rattle.std.specs.List.{AllByRecursion}
 use Rattle.rox_grammar.specs.Written.{NamespaceDecl}
 use Rattle.rox_grammar.specs.Tree as tree
-use Rattle.rox_rows.specs.Rows.{attribute, attribute_rows, NamespaceWithin}
+use Rattle.rox_rows.specs.Rows.{attribute}
 use Rattle.rox_reading.specs.AtIndex.{namespace_at}
 use Rattle.rox_scopes.specs.ScopeRows.{AreScopes}
 use Rattle.rox_scopes.specs.NamespaceViews.{namespace_view}
 use Rattle.rox_scopes.specs.Scopes.{places_in, ArePlaces}
 use Rattle.rox_rows.specs.StoredAttributes.{data_of, row_in, place_bound}
-use Rattle.rox_names.specs.declared.tables.Tables.{Tables}
 use Rattle.rox_lists.specs.NamespaceBound.{namespace_bound}
 use Rattle.rox_lists.specs.ListCodes.{attribute_code, namespace_decl_code}
 pub use Rattle.rox_lists.specs.AttributeView.{attribute_of}
@@ -31,12 +30,6 @@ attributes_left a = map (attribute (map namespace_view a.tables.now.namespaces.i
 pub record AttributesWithin (a : attributes.Inside) : Type 0 where
   pub within : AllByRecursion (λ r. namespace_bound (data_of r).namespace ≤ length a.tables.now.namespaces.items) a.rest.now
   pub placed : AllByRecursion (λ r. place_bound r ≤ length a.tables.now.attributes.explicit.items) a.rest.now
-
--- The rows from `start` up to `stop` are in the table of attributes, and each row names only a namespace that the tables have.
-pub record IsAttributeStretch (tables : Tables) (start stop : ℕ) : Type 0 where
-  pub ordered : start ≤ stop
-  pub within : stop ≤ length (attribute_rows tables.attributes)
-  pub each : AllByRecursion (λ r. NamespaceWithin (length tables.namespaces.items) r.0.namespace) (attribute_rows tables.attributes)
 
 -- The places that are left of those that the scope lists.
 abbrev pub places_left : namespaces.Inside → List ℕ

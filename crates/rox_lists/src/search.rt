@@ -1,10 +1,11 @@
 //! A stretch of the table of attributes, and its search for a name.
 
-ghost use Rattle.std.specs.Prelude.{◌≡◌, None, map, slice_range, option_map};
-ghost use Rattle.rox_rows.specs.Rows.{attribute, attribute_rows};
+ghost use Rattle.std.specs.Prelude.{◌≡◌, None, map, slice_range, option_map, ◌≤◌, length};
+ghost use Rattle.rox_rows.specs.Rows.{attribute, attribute_rows, NamespaceWithin};
 ghost use Rattle.rox_scopes.specs.NamespaceViews.{namespace_view};
-ghost use Rattle.rox_lists.specs.ElementLists.{attribute_of, IsAttributeStretch};
+ghost use Rattle.rox_lists.specs.ElementLists.{attribute_of};
 ghost use Rattle.rox_lists.specs.ExpandedNames.{expanded, named, named_locally};
+ghost use Rattle.std.specs.List.{AllByRecursion};
 
 use crate::attributes::{Attribute, Attributes};
 use crate::names::{ExpandedName, equal_names};
@@ -17,7 +18,10 @@ pub fn attributes_at<'a, 'input>(
     from: usize,
     until: usize,
 ) -> Attributes<'a, 'input>
-    requires { IsAttributeStretch tables.now from until }
+    requires ordered { from ≤ until }
+    requires within { until ≤ length (attribute_rows tables.now.attributes) }
+    requires each { AllByRecursion (λ r. NamespaceWithin (length tables.now.namespaces.items)
+        r.0.namespace) (attribute_rows tables.now.attributes) }
     ensures { result
         ≡ map (attribute (map namespace_view tables.now.namespaces.items))
         (slice_range (attribute_rows tables.now.attributes) from until) }

@@ -1,6 +1,6 @@
 -- The parts of a document type declaration, without where they are in memory, and how a resolver's answer starts.
 use Prim.Native.Char.{code}
-use Rattle.std.specs.Prelude.{◌≡◌, ℕ, ◌+◌, ◌==◌, ◌||◌, Bool, true, List, Option, Some, Result, Ok, Err, IfOk, length, take, slice_index, slice_range, nat_lt, nat_le, if◌then◌else◌, IsUtf8}
+use Rattle.std.specs.Prelude.{◌≡◌, ℕ, ◌+◌, ◌==◌, ◌||◌, Bool, true, List, Option, Some, Result, Ok, Err, length, take, slice_index, nat_lt, nat_le, if◌then◌else◌}
 use Rattle.rox_grammar.specs.declared.fault.Fault.{Fault}
 use Rattle.rox_grammar.specs.declared.fault.Fault.TheVariants as fault
 use Rattle.rox_grammar.specs.declared.fault.Due.TheVariants as due
@@ -15,8 +15,6 @@ use Rattle.rox_reading.specs.Lexical.{Read, ◌>>=◌, chars_up_to}
 use Rattle.rox_reading.specs.Markup.{xml_decl_at}
 use Rattle.rox_reading.specs.Refusals.{Refusal, there}
 use Rattle.rox_reading.specs.Doctype as reading
-use Rattle.rox_bytes.specs.ScanResults.{AreBoundaries}
-use Rattle.rox_scan.specs.CursorSteps.{Steps}
 use Rattle.rox_scan.specs.Views.{replacement_view}
 use Rattle.rox_scan.specs.declared.cursor.Cursor.{Cursor}
 use Rattle.rox_markup.specs.Views.{text_view}
@@ -35,12 +33,6 @@ definition_view (definition.Outer id) = reading.outer (request_view id)
 
 abbrev pub head_view : EntityHead → reading.EntityHead
 head_view h = record { parameter = h.parameter; name = h.name.now }
-
--- A text in quotes is read, and the result is its range.
-pub record ReadsQuoted (old new : Cursor) (result : Result (ℕ × ℕ) Fault) : Type 0 where
-  pub read : Steps (λ x. slice_range old.text.now x.0 x.1) old new result reading.quoted_at
-  pub start : IfOk result (λ x. x.0 ≡ old.pos + 1)
-  pub within : IfOk result (λ x. AreBoundaries old.text.now x.0 x.1)
 
 -- Reads a definition in quotes.
 abbrev pub inner_at : List ℕ → ℕ → Read reading.Definition
@@ -85,8 +77,3 @@ xml_decl_if src i = if at word.XmlDeclStart src i then xml_decl_at src i else Ok
 abbrev pub IsReplacement : (answer : List ℕ) → Result Cursor Fault → Result (Option Replacement) Refusal → Type 0
 IsReplacement answer (Ok text) read = read ≡ Ok (Some (replacement_view text))
 IsReplacement answer (Err f) read = read ≡ Err (there answer f)
-
--- The result is the replacement text of a resolver's answer, which is text.
-pub record IsReplacementOf (answer : List ℕ) (result : Result Cursor Fault) : Type 0 where
-  pub value : IsReplacement answer result (reading.answer_text (Some answer))
-  pub text : IsUtf8 answer

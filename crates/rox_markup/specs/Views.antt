@@ -12,7 +12,6 @@ use Rattle.rox_scan.specs.declared.raw_attribute.RawAttribute.{RawAttribute}
 use Rattle.rox_markup.specs.declared.markup.Instruction.{Instruction}
 use Rattle.rox_markup.specs.declared.markup.WholeComment.{WholeComment}
 use Rattle.rox_markup.specs.declared.tag.EndTag.{EndTag}
-use Rattle.rox_markup.specs.declared.tag.RawValue.{RawValue}
 use Rattle.rox_markup.specs.declared.tag.TagItem.{TagItem}
 use Rattle.rox_markup.specs.declared.tag.TagItem.TheVariants as item
 
@@ -39,12 +38,6 @@ tag_item_view (item.More a) = markup.more (attribute_view a)
 tag_item_view item.Open = markup.opened
 tag_item_view item.Empty = markup.closed
 
--- A value in the quotes `quote` is read up to the quote, and the result says whether it needs no replacement.
-pub record ReadsValue (quote : ℕ) (old new : Cursor) (result : Result RawValue Fault) : Type 0 where
-  pub read : Steps (λ x. x.text.now) old new result (markup.raw_value_at quote)
-  pub text : IfOk result (λ x. x.text.now ≡ slice_range old.text.now old.pos new.pos)
-  pub verbatim : IfOk result (λ x. x.is_verbatim ≡ is_verbatim_value x.text.now)
-
 -- A value in the quotes `quote` is passed, up to the quote, and the result says whether it needs no replacement.
 pub record PassesValue (quote : ℕ) (old new : Cursor) (result : Result Bool Fault) : Type 0 where
   pub read : Steps (λ _. slice_range old.text.now old.pos new.pos) old new result (markup.raw_value_at quote)
@@ -55,13 +48,3 @@ abbrev pub TagItemHasValue : List ℕ → TagItem → Type 0
 TagItemHasValue text (item.More a) = HasValue text a
 TagItemHasValue text item.Open = Unit {0}
 TagItemHasValue text item.Empty = Unit {0}
-
--- An attribute is read, and its value is the text between its offsets.
-pub record ReadsAttribute (old new : Cursor) (result : Result RawAttribute Fault) : Type 0 where
-  pub read : Steps attribute_view old new result markup.attribute_at
-  pub text : IfOk result (λ a. HasValue old.text.now a)
-
--- The next item of a start tag is read. If it is an attribute, its value is the text between its offsets.
-pub record ReadsTagItem (old new : Cursor) (result : Result TagItem Fault) : Type 0 where
-  pub read : Steps tag_item_view old new result markup.tag_item_at
-  pub text : IfOk result (λ t. TagItemHasValue old.text.now t)

@@ -1,12 +1,13 @@
 //! The parts of a document type declaration (XML 1.0 sections 2.8, 4.2 and 4.7).
 
-ghost use Rattle.std.specs.Prelude.{◌≡◌, ◌+◌, slice_index, true};
+ghost use Rattle.std.specs.Prelude.{◌≡◌, ◌+◌, slice_index, true, slice_range, IfOk};
 ghost use Rattle.rox_grammar.specs.Search.{stands};
 ghost use Rattle.rox_grammar.specs.FixedTexts.{word_text};
 ghost use Rattle.rox_grammar.specs.declared.fault.Word.TheVariants as word;
 ghost use Rattle.rox_reading.specs.Doctype as spec;
 ghost use Rattle.rox_scan.specs.CursorSteps.{Steps};
-ghost use Rattle.rox_markup.specs.DoctypeViews.{ReadsQuoted, definition_view, head_view, inner_at, is_skipped_declaration, outer_at, skipped_declaration_at, request_view, subset_end_at};
+ghost use Rattle.rox_markup.specs.DoctypeViews.{definition_view, head_view, inner_at, is_skipped_declaration, outer_at, skipped_declaration_at, request_view, subset_end_at};
+ghost use Rattle.rox_bytes.specs.ScanResults.{AreBoundaries};
 
 use rox_bytes::runs::{after_byte, is_at};
 use rox_bytes::search::byte_from;
@@ -41,7 +42,10 @@ pub struct EntityHead<'input> {
 /// Reads a text in quotes, and returns its range in bytes. It ends at the first quote that equals the one before it.
 #[tactic(auto, unfolding(rox_reading::specs::Doctype::quoted_at))]
 fn quoted_span(cursor: &mut Cursor<'_>) -> Result<(usize, usize), Fault>
-    ensures { ReadsQuoted cursor.old cursor.new result }
+    ensures read { Steps (λ x. slice_range cursor.old.text.now x.0 x.1) cursor.old cursor.new
+        result spec.quoted_at }
+    ensures start { IfOk result (λ x. x.0 ≡ cursor.old.pos + 1) }
+    ensures within { IfOk result (λ x. AreBoundaries cursor.old.text.now x.0 x.1) }
 {
     let quote = cursor.quote()?;
     let start = cursor.pos;

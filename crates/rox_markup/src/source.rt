@@ -1,11 +1,12 @@
 //! Where a text starts, after its byte order mark. A resolver's answer starts after its declaration too (XML 1.0 sections 4.3.1
 //! and 4.3.3).
 
-ghost use Rattle.std.specs.Prelude.{◌≡◌, ◌==◌};
+ghost use Rattle.std.specs.Prelude.{◌≡◌, ◌==◌, Some, IsUtf8};
 ghost use Rattle.std.specs.List.{starts_with};
 ghost use Rattle.rox_grammar.specs.TextStart.{after_bom, bom};
-ghost use Rattle.rox_markup.specs.DoctypeViews.{IsReplacementOf};
+ghost use Rattle.rox_markup.specs.DoctypeViews.{IsReplacement};
 ghost use Rattle.rox_scan.specs.CursorSteps.{IsAt};
+ghost use Rattle.rox_reading.specs.Doctype as reading;
 
 use crate::xml_decl::xml_decl_if;
 use rox_grammar::fault::Fault;
@@ -33,7 +34,9 @@ pub fn start_of(text: &str) -> Cursor<'_>
 /// 4.3.1). Its offsets count from its own start.
 #[tactic(auto, unfolding(rox_reading::specs::Doctype::answer_text))]
 pub fn replacement_in<'input>(answer: &'input str) -> Result<Cursor<'input>, Fault>
-    ensures { IsReplacementOf answer.entry.now result }
+    ensures value { IsReplacement answer.entry.now result
+        (reading.answer_text (Some answer.entry.now)) }
+    ensures text { IsUtf8 answer.entry.now }
 {
     let mut cursor = start_of(answer);
     xml_decl_if(&mut cursor)?;

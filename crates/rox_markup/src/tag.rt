@@ -1,13 +1,15 @@
 //! The contents of tags (XML 1.0 section 3.1). They are the attributes of a start tag as they are written, its end, and the name
 //! of an end tag.
 
-ghost use Rattle.std.specs.Prelude.{◌≡◌, ◌==◌, true};
+ghost use Rattle.std.specs.Prelude.{◌≡◌, ◌==◌, true, IfOk, slice_range};
 ghost use Rattle.rox_grammar.specs.Search.{stands};
 ghost use Rattle.rox_grammar.specs.FixedTexts.{word_text};
 ghost use Rattle.rox_grammar.specs.declared.fault.Word.TheVariants as word;
 ghost use Rattle.rox_reading.specs.Markup as spec;
 ghost use Rattle.rox_scan.specs.CursorSteps.{Steps};
-ghost use Rattle.rox_markup.specs.Views.{PassesValue, ReadsAttribute, ReadsTagItem, ReadsValue, end_tag_view};
+ghost use Rattle.rox_markup.specs.Views.{PassesValue, end_tag_view, attribute_view, tag_item_view, TagItemHasValue};
+ghost use Rattle.rox_scan.specs.Views.{HasValue};
+ghost use Rattle.rox_grammar.specs.Content.{is_verbatim_value};
 
 use rox_bytes::byte_set::{ValueByte, skip_set};
 use rox_bytes::runs::is_at;
@@ -59,7 +61,11 @@ pub fn end_tag<'input>(cursor: &mut Cursor<'input>) -> Result<EndTag<'input>, Fa
 #[inline]
 #[tactic(auto, using(rox_bytes::proofs::NearLemmas::near_plain, rox_bytes::proofs::NearLemmas::value_cut))]
 fn raw_value<'input>(cursor: &mut Cursor<'input>, quote: Quote) -> Result<RawValue<'input>, Fault>
-    ensures { ReadsValue quote.byte cursor.old cursor.new result }
+    ensures read { Steps (λ x. x.text.now) cursor.old cursor.new result
+        (spec.raw_value_at quote.byte) }
+    ensures text { IfOk result (λ x. x.text.now ≡ slice_range cursor.old.text.now cursor.old.pos
+        cursor.new.pos) }
+    ensures verbatim { IfOk result (λ x. x.is_verbatim ≡ is_verbatim_value x.text.now) }
 {
     let start = cursor.pos;
     let near = skip_set::<ValueByte>(cursor.text, start);
@@ -110,7 +116,8 @@ fn faulty_value(cursor: &mut Cursor<'_>, quote: Quote) -> Result<bool, Fault>
 #[inline]
 #[tactic(auto, unfolding(rox_reading::specs::Markup::attribute_at))]
 pub fn attribute<'input>(cursor: &mut Cursor<'input>) -> Result<RawAttribute<'input>, Fault>
-    ensures { ReadsAttribute cursor.old cursor.new result }
+    ensures read { Steps attribute_view cursor.old cursor.new result spec.attribute_at }
+    ensures text { IfOk result (λ a. HasValue cursor.old.text.now a) }
 {
     let start = cursor.pos;
     let name = cursor.qname()?;
@@ -139,7 +146,8 @@ pub fn attribute<'input>(cursor: &mut Cursor<'input>) -> Result<RawAttribute<'in
 #[inline]
 #[tactic(auto, unfolding(rox_reading::specs::Markup::tag_item_at))]
 pub fn tag_item<'input>(cursor: &mut Cursor<'input>) -> Result<TagItem<'input>, Fault>
-    ensures { ReadsTagItem cursor.old cursor.new result }
+    ensures read { Steps tag_item_view cursor.old cursor.new result spec.tag_item_at }
+    ensures text { IfOk result (λ t. TagItemHasValue cursor.old.text.now t) }
 {
     let start = cursor.pos;
     cursor.spaces();

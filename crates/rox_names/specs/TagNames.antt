@@ -1,5 +1,5 @@
 -- What the functions that resolve the names of a tag require and ensure.
-use Rattle.std.specs.Prelude.{◌≡◌, ◌≤◌, ◌<◌, ◌^◌, ◌∷◌, ◌++◌, [], ℕ, Bool, true, false, List, Option, Result, IfOk, IfErr, IfSome, IfNone, drop, length, map, option_map}
+use Rattle.std.specs.Prelude.{◌≡◌, ◌≤◌, ◌∷◌, ◌++◌, [], ℕ, Bool, true, false, List, Option, Result, IfOk, IfErr, IfSome, IfNone, drop, length, map, option_map}
 use Rattle.std.specs.List.{AllByRecursion, list_any}
 use Rattle.rox_grammar.specs.declared.failure.Failure.{Failure}
 use Rattle.rox_grammar.specs.declared.fault.Fault.{Fault}
@@ -9,10 +9,10 @@ use Rattle.rox_grammar.specs.NameParts.{prefix_span}
 use Rattle.rox_grammar.specs.Tree.{attribute_in, element_namespace}
 use Rattle.rox_grammar.specs.WellNamed.{is_known, may_name}
 use Rattle.rox_grammar.specs.Written.{Attribute, Name, NamespaceDecl}
-use Rattle.rox_scopes.specs.Bindings.{FindsBinding, LooksWithin}
+use Rattle.rox_scopes.specs.Bindings.{FindsBinding}
 use Rattle.rox_names.specs.ExpandedNames.{HasExpandedNames, Key, TestedOr}
 use Rattle.rox_names.specs.ResolvedNames.{AddsNew, IsNamespaceOf, Tested}
-use Rattle.rox_seen.specs.SeenNames.{has_expanded, HasNameOf, KeepsCodes, PutsSeen, SeesName}
+use Rattle.rox_seen.specs.SeenNames.{has_expanded, KeepsCodes, PutsSeen, SeesName}
 use Rattle.rox_rows.specs.Rows.{AttributeRow, NamespaceWithin, attribute}
 use Rattle.rox_reading.specs.AtIndex.{OptionWithin, namespace_at}
 use Rattle.rox_scopes.specs.NamespaceViews.{namespace_view}
@@ -30,17 +30,6 @@ use Rattle.rox_scopes.specs.declared.namespace.Namespace.{Namespace}
 pub record FindsNamespace (table : List Namespace) (few : Option (List ℕ)) (present : PrefixBindings) (name : Name) (result : Option AttributeNamespace) : Type 0 where
   pub found : IfSome result (IsNamespaceOf table few present name)
   pub unknown : (ds : List NamespaceDecl) → FindsBinding (map namespace_view table) few present ds → IfNone result (is_known ds name ≡ false)
-
--- The namespaces of these attributes, and `one`, are among `namespaces`.
-pub record AreAmong (namespaces : ℕ) (attributes : List StoredAttribute) (one : AttributeNamespace) : Type 0 where
-  pub done : AllByRecursion (λ a. NamespaceWithin namespaces (data_of a).namespace) attributes
-  pub other : NamespaceWithin namespaces one
-
--- A name can be looked up. The attributes before it in its tag are recorded, and their namespaces are among `namespaces`.
-pub record MayTest (namespaces : ℕ) (few : Option (List ℕ)) (present : PrefixBindings) (attributes : List StoredAttribute) (codes : List ℕ) : Type 0 where
-  pub within : LooksWithin namespaces few present
-  pub done : AllByRecursion (λ a. NamespaceWithin namespaces (data_of a).namespace) attributes
-  pub seen : AllByRecursion (λ a. HasNameOf codes (data_of a)) attributes
 
 -- The result is the namespace of an attribute whose expanded name none of those before it has; its name is recorded. Otherwise it
 -- is the fault.
@@ -77,11 +66,6 @@ pub record MayRefuse (namespaces : ℕ) (seen : SeenNames) (rows : List Attribut
 pub record TellsRefused (namespaces : List NamespaceDecl) (old new : SeenNames) (rows : List AttributeRow) (space : AttributeNamespace) (local : List ℕ) (result : Bool) : Type 0 where
   pub first : result ≡ false → list_any (λ r. has_expanded namespaces space local r.0) (drop old.from rows) ≡ false
   pub kept : KeepsCodes old new
-
--- A name that starts at the offset `at` can be looked up.
-pub record MayLookUp (namespaces : ℕ) (few : Option (List ℕ)) (present : PrefixBindings) (at : ℕ) : Type 0 where
-  pub within : LooksWithin namespaces few present
-  pub small : at < 2 ^ 63
 
 -- The result is the namespace of an element's name, or the fault that its prefix is not known.
 pub record FindsElement (table : List Namespace) (few : Option (List ℕ)) (present : PrefixBindings) (name : Name) (at : ℕ) (result : Result (Option ℕ) Fault) : Type 0 where

@@ -1,8 +1,8 @@
 //! The names of a start tag in their namespaces (Namespaces in XML 1.0, sections 5, 6.2 and 6.3). They are resolved at the end of
 //! the tag, since a declaration holds for the whole tag.
 
-ghost use Rattle.std.specs.Prelude.{◌≡◌, List, length, map};
-ghost use Rattle.std.specs.List.{list_any};
+ghost use Rattle.std.specs.Prelude.{◌≡◌, List, length, map, ◌<◌, ◌^◌};
+ghost use Rattle.std.specs.List.{list_any, AllByRecursion};
 ghost use Rattle.rox_grammar.specs.Written.{NamespaceDecl};
 ghost use Rattle.rox_grammar.specs.Failures.{name_view};
 ghost use Rattle.rox_rows.specs.Rows.{attribute_rows, attribute_uri, NamespaceWithin};
@@ -11,9 +11,9 @@ ghost use Rattle.rox_rows.specs.StoredAttributes.{data_of};
 ghost use Rattle.rox_scopes.specs.Scopes.{prefix_view};
 ghost use Rattle.rox_scopes.specs.Bindings.{FindsBinding, LooksWithin, places_view};
 ghost use Rattle.rox_names.specs.ResolvedNames.{row_of_unresolved, row_of_compact, Resolves};
-ghost use Rattle.rox_seen.specs.SeenNames.{has_expanded};
+ghost use Rattle.rox_seen.specs.SeenNames.{has_expanded, HasNameOf};
 ghost use Rattle.rox_seen.specs.SeenNames.{TakesOneMore};
-ghost use Rattle.rox_names.specs.TagNames.{AreAmong, FindsElement, FindsNamespace, MayLookUp, MayRefuse, MayTest, PutsNew, TellsRefused, TestsKey, TestsName};
+ghost use Rattle.rox_names.specs.TagNames.{FindsElement, FindsNamespace, MayRefuse, PutsNew, TellsRefused, TestsKey, TestsName};
 
 use crate::expanded_names::is_repeated_name;
 use crate::namespace_decl::{local_span, prefix_span};
@@ -90,7 +90,9 @@ fn is_among(
     namespace: AttributeNamespace,
     local: &str,
 ) -> bool
-    requires { AreAmong (length namespaces.now) done.now namespace }
+    requires done { AllByRecursion (λ a. NamespaceWithin (length namespaces.now)
+        (data_of a).namespace) done.now }
+    requires other { NamespaceWithin (length namespaces.now) namespace }
     ensures { result ≡ list_any
         (λ a. has_expanded (map namespace_view namespaces.now) namespace local.now
         (data_of a)) done.now }
@@ -120,8 +122,10 @@ fn tested_namespace(
     seen: &mut SeenNames,
     taken: &UnresolvedAttribute<'_>,
 ) -> Result<AttributeNamespace, Fault>
-    requires { MayTest (length namespaces.now) (places_view few) present.now done.now
-        seen.old.codes }
+    requires within { LooksWithin (length namespaces.now) (places_view few) present.now }
+    requires done { AllByRecursion (λ a. NamespaceWithin (length namespaces.now)
+        (data_of a).namespace) done.now }
+    requires seen { AllByRecursion (λ a. HasNameOf seen.old.codes (data_of a)) done.now }
     ensures { TestsName namespaces.now (places_view few.entry) present.now done.now
         seen.old seen.new taken.now result }
 {
@@ -374,7 +378,8 @@ pub fn element_namespace(
     name: QName<'_>,
     at: usize,
 ) -> Result<Option<u16>, Fault>
-    requires { MayLookUp (length namespaces.now) (places_view few) present.now at }
+    requires within { LooksWithin (length namespaces.now) (places_view few) present.now }
+    requires small { at < 2 ^ 63 }
     ensures { FindsElement namespaces.now (places_view few.entry) present.now
         (name_view name.entry) at result }
 {

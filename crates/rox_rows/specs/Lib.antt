@@ -5,4 +5,3 @@ pub mod StoredAttributes
 pub mod NodeChanges
 pub mod Puts
 pub mod AttributeChanges
-pub mod FirstRoom

@@ -1,6 +1,5 @@
 -- How the table of nodes changes.
-use Rattle.std.specs.Prelude.{◌≡◌, ◌+◌, ◌^◌, ◌<◌, ◌≤◌, ◌∷◌, ◌++◌, [], ℕ, Bool, Result, OnOk, OnErr, length, take, set, get_or, vec_len, vec_capacity, if◌then◌else◌}
-use Rattle.rox_rows.specs.StoredNodes.{IsSmallKind}
+use Rattle.std.specs.Prelude.{◌≡◌, ◌+◌, ◌^◌, ◌<◌, ◌≤◌, ◌∷◌, ◌++◌, [], ℕ, Bool, Result, OnOk, OnErr, length, set, get_or, vec_len, vec_capacity, if◌then◌else◌}
 use Rattle.rox_rows.specs.Rows.{node_rows}
 use Rattle.rox_rows.specs.declared.node_table.NodeTable.{NodeTable}
 use Rattle.rox_rows.specs.declared.row.NodeData.{NodeData}
@@ -22,21 +21,6 @@ pub record FitsNode (row : NodeData) (t : NodeTable) : Type 0 where
   pub start : row.start < 2 ^ 32
   pub end : row.end < 2 ^ 32
 
--- There is room for a row, and the node needs no other table.
-pub record FitsSmallNode (row : NodeData) (t : NodeTable) : Type 0 where
-  pub fits : FitsNode row t
-  pub small : IsSmallKind row.kind
-
--- There is room for the row of a processing instruction, and for its text.
-pub record FitsInstruction (row : NodeData) (t : NodeTable) : Type 0 where
-  pub fits : FitsNode row t
-  pub more : vec_len t.instructions < vec_capacity t.instructions
-
--- The table has `count` nodes.
-pub record CountsNodes (t : NodeTable) (count : ℕ) : Type 0 where
-  pub rows : count ≡ vec_len t.rows
-  pub nodes : count ≡ length (node_rows t)
-
 -- The nodes stay, and there is room for one more unless memory ran out.
 pub record MakesNodeRoom {E : Type 0} (old new : NodeTable) (result : Result (Unit {0}) E) : Type 0 where
   pub rows : KeepsNodes old new
@@ -53,27 +37,11 @@ pub record PushesNode (row : NodeData) (well : Bool) (old new : NodeTable) : Typ
   pub rows : node_rows new ≡ (if well then node_rows old ++ row ∷ [] else node_rows old)
   pub len : vec_len new.rows ≡ (if well then vec_len old.rows + 1 else vec_len old.rows)
 
--- The nodes after the first `count` are removed.
-pub record TakesNodes (count : ℕ) (old new : NodeTable) : Type 0 where
-  pub rows : node_rows new ≡ take count (node_rows old)
-  pub len : count ≤ vec_len old.rows → vec_len new.rows ≡ count
-  pub capacity : vec_capacity new.rows ≡ vec_capacity old.rows
-
--- The number of all rows, `count`, is written into the row of the root node.
-pub record EndsRoot (count : ℕ) (old new : NodeTable) : Type 0 where
-  pub rows : (d : NodeData) → node_rows new ≡ set (node_rows old) 0 (record (get_or (node_rows old) 0 d) { subtree_end = count })
-  pub len : vec_len new.rows ≡ vec_len old.rows
-
 -- The element of the row `row` ends at `end`, and all later rows become its descendants.
 pub record EndsNode (row end : ℕ) (old new : NodeTable) : Type 0 where
   pub rows : (d : NodeData) → node_rows new ≡ set (node_rows old) row (record (get_or (node_rows old) row d) { end = end; subtree_end = length (node_rows old) })
   pub len : vec_len new.rows ≡ vec_len old.rows
   pub capacity : vec_capacity new.rows ≡ vec_capacity old.rows
-
--- There is room for the end of an element, which may have an upper half only if all rows have one.
-pub record HasRoomForEnd (end : ℕ) (t : NodeTable) : Type 0 where
-  pub few : vec_len t.rows < 2 ^ 32
-  pub room : vec_len t.high < vec_len t.rows → end < 2 ^ 32
 
 -- The element of the row `row` ends at `end`, or memory ran out and the nodes stay.
 pub record EndsRow {E : Type 0} (row end : ℕ) (old new : NodeTable) (result : Result (Unit {0}) E) : Type 0 where

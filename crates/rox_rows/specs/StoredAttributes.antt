@@ -1,7 +1,6 @@
 -- Attributes as their table stores them. Most are compact: their offsets follow from their start. The others have explicit
 -- offsets, in a table.
-use Rattle.std.specs.Prelude.{◌≡◌, ◌==◌, ◌<◌, ◌-◌, Bool, true, false, ℕ, ◌+◌, Vec, vec_len, List, [], ◌∷◌, ◌++◌, length, get_or, take, if◌then◌else◌}
-use Rattle.std.specs.declared.alloc.Global.{Global}
+use Rattle.std.specs.Prelude.{◌≡◌, ◌==◌, ◌-◌, true, ℕ, ◌+◌, List, [], ◌∷◌, ◌++◌, length, get_or, take, if◌then◌else◌}
 use Rattle.std.specs.Mem.{manually_drop_value}
 use Rattle.std.specs.Coded.{×_prop, →_prop, Unit-prop, Coded-set, coded_ℕ}
 use Rattle.rox_storage.specs.Storage.{storage_bytes, is_borrowed}
@@ -23,12 +22,6 @@ namespace_of kind.Listed listed = space.Listed listed
 -- The content of an attribute.
 abbrev pub data_of : StoredAttribute → AttributeData
 data_of r = record { local = r.local; value = manually_drop_value r.value; namespace = namespace_of r.kind r.listed }
-
--- The row `r` stores the attribute `item`, with the numbers `before` and `place`.
-pub record StoresAttribute (item : AttributeData) (before place : ℕ) (r : StoredAttribute) : Type 0 where
-  pub is : data_of r ≡ item
-  pub before_is : r.before ≡ before
-  pub place_is : r.place ≡ place
 
 -- The offsets of an attribute. `explicit` is the table of explicit offsets.
 abbrev pub places_in : List AttributePlaces → StoredAttribute → AttributePlaces
@@ -70,13 +63,3 @@ owned_places i (r ∷ rs) = own_place (manually_drop_value r.value) i ++ owned_p
 pub record TakesBack (count : ℕ) (old new : List StoredAttribute) (owned left : List ℕ) : Type 0 where
   pub rows : new ≡ take count old
   pub listed : owned_places 0 old ≡ owned → owned_places 0 new ≡ left
-
--- The result is whether the offsets of a row do not follow from its start. If they do, `before` is a number of bytes.
-pub record TellsExplicit (r : StoredAttribute) (result : Bool) : Type 0 where
-  pub explicit : result ≡ (r.before == 255)
-  pub compact : result ≡ false → r.before < 255
-
--- The last row is removed.
-pub record TakesLastRow (old new : Vec StoredAttribute Global) (owned left : List ℕ) : Type 0 where
-  pub taken : TakesBack (vec_len old - 1) old.items new.items owned left
-  pub count : vec_len new ≡ vec_len old - 1

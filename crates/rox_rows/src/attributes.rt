@@ -1,9 +1,10 @@
 //! The table of attributes.
 
 ghost use Rattle.std.specs.Prelude.{◌≡◌, ◌<◌, ◌≤◌, ◌+◌, ◌-◌, ◌/◌, ◌∷◌, [], true, false, length, take, vec_len, vec_capacity, if◌then◌else◌, is_ok};
-ghost use Rattle.rox_rows.specs.StoredAttributes.{AreNumbered, AreNumbered-prop, TakesBack, TakesLastRow, explicit_count, own_place, owned_places};
+ghost use Rattle.rox_rows.specs.StoredAttributes.{AreNumbered, AreNumbered-prop, TakesBack, explicit_count, own_place, owned_places};
 ghost use Rattle.std.proofs.Props.{props};
 ghost use Rattle.rox_rows.specs.Puts.{Puts};
+ghost use Rattle.rox_rows.specs.CompactPlaces.{IsCompact};
 
 use crate::row::{AttributeData, AttributePlaces};
 use crate::stored_attribute::{EXPLICIT, StoredAttribute, compact_before};
@@ -69,7 +70,9 @@ fn note(owned: &mut Vec<usize>, refused: &mut bool, value: &StringStorage<'_>, c
 
 /// Removes the last row and frees its value.
 fn take_last(items: &mut Vec<StoredAttribute<'_>>, owned: &mut Vec<usize>)
-    ensures { TakesLastRow items.old items.new owned.old.items owned.new.items }
+    ensures taken { TakesBack (vec_len items.old - 1) items.old.items items.new.items
+        owned.old.items owned.new.items }
+    ensures count { vec_len items.new ≡ vec_len items.old - 1 }
 {
     if let Some(row) = items.pop() {
         let value = ManuallyDrop::into_inner(row.value);
@@ -110,7 +113,7 @@ impl Drop for AttributeTable<'_> {
 impl<'input> AttributeTable<'input> {
     ghost use Rattle.rox_rows.specs.Rows.{attribute_rows};
     ghost use Rattle.rox_rows.specs.StoredAttributes.{places_in, place_bound};
-    ghost use Rattle.rox_rows.specs.AttributeChanges.{FitsCompact, MakesAttributeRoom, TellsRoom};
+    ghost use Rattle.rox_rows.specs.AttributeChanges.{MakesAttributeRoom};
 
     /// Returns a table without attributes for a text of `bytes` bytes, which is to have `room` of them.
     pub fn of_text(alloc: Global, bytes: usize, room: usize) -> AttributeTable<'input>
@@ -169,7 +172,8 @@ impl<'input> AttributeTable<'input> {
     /// Returns whether there is room for one more attribute, which ends at `place`. If there was none, tries to make it.
     #[inline(always)]
     pub fn has_room(&mut self, place: usize) -> bool
-        ensures { TellsRoom self.old self.new result }
+        ensures rows { attribute_rows self.new ≡ attribute_rows self.old }
+        ensures room { result ≡ true → vec_len self.new.items < vec_capacity self.new.items }
     {
         if !self.is_full() {
             return true;
@@ -186,7 +190,8 @@ impl<'input> AttributeTable<'input> {
         places: AttributePlaces,
         before: u8,
     ) -> bool
-        requires { FitsCompact item places before self.old }
+        requires room { vec_len self.old.items < vec_capacity self.old.items }
+        requires compact { IsCompact item places before }
         ensures { Puts ((item.entry, places) ∷ []) result (attribute_rows self.old)
             (attribute_rows self.new) }
     {

@@ -1,7 +1,6 @@
 //! An estimate of how many rows a text gives: from its length, and for a long text from a sample of its bytes.
 
-ghost use Rattle.std.specs.Prelude.{length};
-ghost use Rattle.rox_rows.specs.FirstRoom.{IsFirstRoom};
+ghost use Rattle.std.specs.Prelude.{length, ◌≤◌, ◌+◌, ◌/◌, ◌<◌};
 
 use std::simd::prelude::*;
 
@@ -131,7 +130,9 @@ fn by_length(len: usize) -> RowCounts {
 /// Returns how many rows the tables of `text` get room for at first: the estimate, bounded by the length, and some more.
 #[inline(always)]
 pub fn first_rows(text: &str) -> RowCounts
-    ensures { IsFirstRoom (length text.now) result }
+    ensures nodes { result.nodes ≤ (length text.now) / 4 + 16 }
+    ensures some { 0 < result.nodes }
+    ensures attributes { result.attributes ≤ (length text.now) / 6 + 10 }
 {
     let len = text.len();
     let rows = if len < SAMPLED {

@@ -1,9 +1,9 @@
 //! The table of nodes.
 
-ghost use Rattle.std.specs.Prelude.{◌≡◌, ◌<◌, ◌≤◌, ◌+◌, ◌-◌, ◌^◌, ◌∷◌, [], true, length, get_or, vec_len, vec_capacity, if◌then◌else◌, is_ok, IfOk};
+ghost use Rattle.std.specs.Prelude.{◌≡◌, ◌<◌, ◌≤◌, ◌+◌, ◌-◌, ◌^◌, ◌∷◌, [], true, length, get_or, vec_len, vec_capacity, if◌then◌else◌, is_ok, IfOk, set, take};
 ghost use Rattle.std.proofs.Props.{props};
 ghost use Rattle.rox_rows.specs.StoredNodes as stored;
-ghost use Rattle.rox_rows.specs.StoredNodes.{are_within};
+ghost use Rattle.rox_rows.specs.StoredNodes.{are_within, IsSmallKind};
 ghost use Rattle.rox_rows.specs.declared.row.PI.{PI};
 ghost use Rattle.rox_rows.specs.declared.row.NodeData.{NodeData};
 ghost use Rattle.rox_rows.specs.declared.row.NodeKind.TheVariants as kind;
@@ -177,7 +177,7 @@ impl Drop for NodeTable<'_> {
 
 impl<'input> NodeTable<'input> {
     ghost use Rattle.rox_rows.specs.Rows.{node_rows};
-    ghost use Rattle.rox_rows.specs.NodeChanges.{CountsNodes, EndsNode, EndsRoot, EndsRow, FitsInstruction, FitsNode, FitsSmallNode, HasRoomForEnd, IsRootAlone, KeepsNodes, MakesNodeRoom, MayTakeLast, PushesNode, PutsNode, TakesNodes};
+    ghost use Rattle.rox_rows.specs.NodeChanges.{EndsNode, EndsRow, FitsNode, IsRootAlone, KeepsNodes, MakesNodeRoom, MayTakeLast, PushesNode, PutsNode};
 
     /// Returns a table with only the root node of a text of `bytes` bytes, and room for `room` rows. If that is refused and the
     /// table would not be small, it has room for `FEWEST_ROWS` (see `first_room`).
@@ -211,7 +211,8 @@ impl<'input> NodeTable<'input> {
     /// Returns the number of nodes.
     #[inline(always)]
     pub fn len(&self) -> usize
-        ensures { CountsNodes self.now result }
+        ensures rows { result ≡ vec_len self.now.rows }
+        ensures nodes { result ≡ length (node_rows self.now) }
     {
         self.rows.len()
     }
@@ -272,7 +273,8 @@ impl<'input> NodeTable<'input> {
     /// Appends a node. Its row needs no other table, and there is room for it.
     #[inline(always)]
     pub fn put(&mut self, row: NodeData<'input>)
-        requires { FitsSmallNode row self.old }
+        requires fits { FitsNode row self.old }
+        requires small { IsSmallKind row.kind }
         ensures { PutsNode row.entry self.old self.new }
     {
         let owns = owns_text(&row.kind);
@@ -299,7 +301,8 @@ impl<'input> NodeTable<'input> {
     /// Like `put`, but for a processing instruction: it is `instruction` in place of the kind of `row`. There is room for it.
     #[inline(always)]
     pub fn put_instruction(&mut self, row: NodeData<'input>, instruction: PI<'input>)
-        requires { FitsInstruction row self.old }
+        requires fits { FitsNode row self.old }
+        requires more { vec_len self.old.instructions < vec_capacity self.old.instructions }
         ensures { PutsNode (record row.entry { kind = kind.PI instruction.entry }) self.old
             self.new }
     {
@@ -375,7 +378,8 @@ impl<'input> NodeTable<'input> {
     /// of the end if it has one.
     #[inline(always)]
     pub fn put_end(&mut self, row: u32, end: usize)
-        requires { HasRoomForEnd end self.old }
+        requires few { vec_len self.old.rows < 2 ^ 32 }
+        requires room { vec_len self.old.high < vec_len self.old.rows → end < 2 ^ 32 }
         ensures { EndsNode row end self.old self.new }
     {
         let subtree_end = self.rows.len() as u32;
@@ -398,7 +402,9 @@ impl<'input> NodeTable<'input> {
 
     /// Writes the number of all rows into the row of the root node.
     pub fn end_root(&mut self, count: u32)
-        ensures { EndsRoot count self.old self.new }
+        ensures rows { (d : NodeData) → node_rows self.new ≡ set (node_rows self.old) 0
+            (record (get_or (node_rows self.old) 0 d) { subtree_end = count }) }
+        ensures len { vec_len self.new.rows ≡ vec_len self.old.rows }
     {
         close_stored(&mut self.rows, count);
     }
@@ -406,7 +412,9 @@ impl<'input> NodeTable<'input> {
     /// Removes the last node if there are more than `count` nodes.
     pub fn truncate(&mut self, count: usize)
         requires { MayTakeLast count self.old }
-        ensures { TakesNodes count self.old self.new }
+        ensures rows { node_rows self.new ≡ take count (node_rows self.old) }
+        ensures len { count ≤ vec_len self.old.rows → vec_len self.new.rows ≡ count }
+        ensures capacity { vec_capacity self.new.rows ≡ vec_capacity self.old.rows }
     {
         if self.rows.len() <= count {
             return;

@@ -1,6 +1,6 @@
 //! An attribute as its table stores it.
 
-ghost use Rattle.std.specs.Prelude.{◌≡◌, ◌==◌, ◌<◌, ◌+◌, ◌^◌, length, IfSome};
+ghost use Rattle.std.specs.Prelude.{◌≡◌, ◌==◌, ◌<◌, ◌+◌, ◌^◌, length, IfSome, false};
 ghost use Rattle.std.specs.Mem.{manually_drop_value};
 ghost use Rattle.rox_storage.specs.Storage.{storage_bytes};
 ghost use Rattle.rox_rows.specs.CompactPlaces.{IsCompact, compact_places};
@@ -39,7 +39,7 @@ pub struct StoredAttribute<'input> {
 pub const EXPLICIT: u8 = 255;
 
 impl<'input> StoredAttribute<'input> {
-    ghost use Rattle.rox_rows.specs.StoredAttributes.{StoresAttribute, TellsExplicit, data_of};
+    ghost use Rattle.rox_rows.specs.StoredAttributes.{data_of};
 
     /// Returns the row of an attribute.
     #[inline(always)]
@@ -51,7 +51,9 @@ impl<'input> StoredAttribute<'input> {
         requires { before < 255
             → place + before + length item.local.now + length (storage_bytes item.value) + 3
             < 2 ^ 64 }
-        ensures { StoresAttribute item.entry before place result }
+        ensures is { data_of result ≡ item.entry }
+        ensures before_is { result.before ≡ before }
+        ensures place_is { result.place ≡ place }
     {
         let (kind, listed) = match item.namespace {
             AttributeNamespace::None => (NamespaceKind::None, 0),
@@ -83,7 +85,8 @@ impl<'input> StoredAttribute<'input> {
     /// Returns whether the offsets do not follow from the start.
     #[inline]
     pub(crate) fn has_explicit_places(&self) -> bool
-        ensures { TellsExplicit self.now result }
+        ensures explicit { result ≡ (self.now.before == 255) }
+        ensures compact { result ≡ false → self.now.before < 255 }
     {
         self.before == EXPLICIT
     }

@@ -1,5 +1,5 @@
 -- How the result of a step of the cursor relates to what is read.
-use Rattle.std.specs.Prelude.{◌≡◌, ◌≤◌, ℕ, List, take, slice_range, Result, Ok, Err, IfOk}
+use Rattle.std.specs.Prelude.{◌≡◌, ◌≤◌, ℕ, List, slice_range, Result, Ok, Err, IfOk}
 use Rattle.std.specs.Borrow.{Bor}
 use Rattle.rox_grammar.specs.declared.fault.Fault.{Fault}
 use Rattle.rox_reading.specs.Lexical.{Read, chars_up_to}
@@ -20,11 +20,6 @@ pub record Steps {A B : Type 0} (view : A → B) (old new : Cursor) (result : Re
 pub record IsAt (text : Bor (List ℕ)) (at : ℕ) (cursor : Cursor) : Type 0 where
   pub place : cursor.pos ≡ at
   pub source : cursor.text ≡ text
-
--- The cursor is at the offset `start` of the source `text` cut off at `end`.
-pub record StandsWithin (text : List ℕ) (start end : ℕ) (cursor : Cursor) : Type 0 where
-  pub place : cursor.pos ≡ start
-  pub source : cursor.text.now ≡ take end text
 
 -- The cursor moved on to the offset `to` of its source.
 pub record MovesTo (to : ℕ) (old new : Cursor) : Type 0 where

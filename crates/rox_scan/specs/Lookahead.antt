@@ -7,7 +7,7 @@ use Rattle.rox_grammar.specs.Search.{byte_from, stands}
 use Rattle.rox_grammar.specs.Chars.{is_char}
 use Rattle.rox_grammar.specs.Runs.{begins}
 use Rattle.rox_grammar.specs.Content.{is_verbatim}
-use Rattle.rox_bytes.specs.ByteSets.{StopsSet, is_text_byte, is_any_value_byte}
+use Rattle.rox_bytes.specs.ByteSets.{is_text_byte, is_any_value_byte}
 use Rattle.rox_reading.specs.Values.{is_special, raw_character_data_at}
 use Rattle.rox_grammar.specs.Constructs.{AreChars}
 
@@ -30,11 +30,6 @@ pub record IsStep (src : List ℕ) (i j : ℕ) : Type 0 where
   pub chars : AreChars src i j
   pub cut : IsCharBoundary src j
   pub wide : (k : ℕ) → i < k → k < j → 128 ≤ slice_index src k
-
--- The offset `j` is after the Char that starts at `i`, or it is `i` if the character there is not a Char.
-pub record IsAfterChar (src : List ℕ) (i j : ℕ) : Type 0 where
-  pub step : IsStep src i j
-  pub stops : j ≡ i → begins is_char src i ≡ false
 
 -- Whether a value ends at the offset: a quote or a `<` is there. Each special byte changes a value.
 abbrev pub ends_value : ℕ → List ℕ → ℕ → Bool
@@ -68,11 +63,6 @@ GoesOnLooking src j k verbatim = (i : ℕ) → IsCharBoundary src i → IsLookah
 pub record EndsRun (src : List ℕ) (i j : ℕ) : Type 0 where
   pub looked : IsLookahead (ends_run src) changes_run src i j true
   pub here : slice_index src j ≡ 60
-
--- The bytes from `i` up to `j` are of `TextByte`, and there is a byte at `j`, which is not.
-pub record SeesRun (src : List ℕ) (i j : ℕ) : Type 0 where
-  pub cut : IsCharBoundary src i
-  pub stops : StopsSet is_text_byte src i j
 
 -- Whether the text of a comment ends at the offset: two dashes are there.
 abbrev pub ends_comment : List ℕ → ℕ → Bool

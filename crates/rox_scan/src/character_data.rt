@@ -5,9 +5,10 @@ ghost use Rattle.std.specs.Prelude.{◌≡◌, ◌==◌, ◌||◌, ◌&&◌, ◌
 ghost use Rattle.rox_grammar.specs.Content as content;
 ghost use Rattle.rox_bytes.specs.ByteSets as near;
 ghost use Rattle.rox_scan.specs.Lookahead as longer;
-ghost use Rattle.rox_scan.specs.Lookahead.{EndsLine, EndsRun, GoesOnLooking, IsChangedRun, IsLineRun, IsLookahead, IsStep, LooksAhead, SeesRun};
+ghost use Rattle.rox_scan.specs.Lookahead.{EndsLine, EndsRun, GoesOnLooking, IsChangedRun, IsLineRun, IsLookahead, IsStep, LooksAhead};
 ghost use Rattle.rox_scan.specs.Views.{ReadsRun};
-ghost use Rattle.rox_bytes.specs.ScanResults.{HasCharAt, Has239At};
+ghost use Rattle.rox_bytes.specs.ScanResults.{HasCharAt};
+ghost use Rattle.rox_bytes.specs.ByteSets.{StopsSet, is_text_byte};
 
 use crate::cursor::Cursor;
 use crate::lookahead::{Lookahead, after_char, is_mark_at};
@@ -126,7 +127,8 @@ pub fn text_end(text: &str, at: usize) -> Option<usize>
 /// Like `text_end`, beyond `near`: the bytes up to there are `TextByte`s, and the byte there is another.
 #[inline(always)]
 fn text_end_beyond(text: &str, at: usize, near: usize) -> Option<usize>
-    requires { SeesRun text.now at near }
+    requires cut { IsCharBoundary text.now at }
+    requires stops { StopsSet is_text_byte text.now at near }
     ensures { IfSome result (EndsRun text.entry.now at) }
 {
     if !is_rare(text.as_bytes()[near]) {
@@ -206,7 +208,8 @@ fn begins_no_char(text: &str, at: usize) -> bool
 /// Returns the offset after the Char that starts with 239 at `at`, or `at` if it is U+FFFE or U+FFFF, which are not Chars.
 #[inline(always)]
 fn after_239(text: &str, at: usize) -> usize
-    requires { Has239At text.now at }
+    requires char { HasCharAt text.now at }
+    requires here { slice_index text.now at ≡ 239 }
     ensures { IsStep text.now at result }
 {
     if begins_no_char(text, at) {

@@ -1,6 +1,6 @@
 //! An offset in a source, and the small steps that read from it.
 
-ghost use Rattle.std.specs.Prelude.{◌≡◌, ◌==◌, ◌||◌, ◌+◌, ◌<◌, true, length, nat_le, IsCharBoundary, IsUtf8};
+ghost use Rattle.std.specs.Prelude.{◌≡◌, ◌==◌, ◌||◌, ◌+◌, ◌<◌, true, length, nat_le, IsCharBoundary, IsUtf8, slice_index, take};
 ghost use Rattle.std.proofs.Props.{props};
 ghost use Rattle.rox_grammar.specs.Chars.{is_name_char, is_space};
 ghost use Rattle.rox_grammar.specs.Runs.{run_end};
@@ -48,8 +48,8 @@ pub fn name_end(text: &str, start: usize) -> usize
 
 impl<'input> Cursor<'input> {
     ghost use Rattle.rox_grammar.specs.Failures.{name_view};
-    ghost use Rattle.rox_bytes.specs.ScanResults.{AreBoundaries, HasAsciiAt};
-    ghost use Rattle.rox_scan.specs.CursorSteps.{IsAt, MovesTo, StandsWithin, Steps};
+    ghost use Rattle.rox_bytes.specs.ScanResults.{AreBoundaries};
+    ghost use Rattle.rox_scan.specs.CursorSteps.{IsAt, MovesTo, Steps};
     ghost use Rattle.rox_grammar.specs.Search.{stands};
     ghost use Rattle.rox_grammar.specs.FixedTexts.{word_text};
     ghost use Rattle.rox_grammar.specs.Names.{spaces_end};
@@ -77,7 +77,8 @@ impl<'input> Cursor<'input> {
     #[inline]
     pub fn within(text: &'input str, start: usize, end: usize) -> Cursor<'input>
         requires { AreBoundaries text.now start end }
-        ensures { StandsWithin text.entry.now start end result }
+        ensures place { result.pos ≡ start }
+        ensures source { result.text.now ≡ take end text.entry.now }
     {
         Cursor {
             text: &text[..end],
@@ -97,7 +98,8 @@ impl<'input> Cursor<'input> {
     /// Moves past the ASCII byte at the cursor.
     #[inline(always)]
     pub fn advance(&mut self)
-        requires { HasAsciiAt self.old.text.now self.old.pos }
+        requires there { self.old.pos < length self.old.text.now }
+        requires ascii { slice_index self.old.text.now self.old.pos < 128 }
         ensures { MovesTo (self.old.pos + 1) self.old self.new }
     {
         self.pos += 1;

@@ -1,17 +1,17 @@
 //! Chars, and looks at values and comments beyond their plain bytes: a byte that is not plain may be valid. These are bytes of
 //! references, white space, the other quote, a dash, and 239.
 
-ghost use Rattle.std.specs.Prelude.{◌≡◌, ◌==◌, ◌||◌, ◌<◌, ◌≤◌, true, slice_index, IsCharBoundary};
+ghost use Rattle.std.specs.Prelude.{◌≡◌, ◌==◌, ◌||◌, ◌<◌, ◌≤◌, true, slice_index, IsCharBoundary, false, length};
 ghost use Rattle.rox_grammar.specs.Chars.{is_char};
-ghost use Rattle.rox_grammar.specs.Runs.{run_end};
+ghost use Rattle.rox_grammar.specs.Runs.{run_end, begins};
 ghost use Rattle.rox_grammar.specs.Search.{stands};
 ghost use Rattle.rox_grammar.specs.Content as content;
 ghost use Rattle.rox_reading.specs.Values as reading;
 ghost use Rattle.rox_bytes.specs.ByteSets as near;
 ghost use Rattle.rox_scan.specs.CursorSteps.{ReadsChars};
 ghost use Rattle.rox_scan.specs.Lookahead as longer;
-ghost use Rattle.rox_scan.specs.Lookahead.{EndsComment, GoesOnInValue, IsAfterChar, IsLookahead, LooksAhead};
-ghost use Rattle.rox_bytes.specs.ScanResults.{Finds, HasCharAt, IsBoundaryFrom, MayHaveMark};
+ghost use Rattle.rox_scan.specs.Lookahead.{EndsComment, GoesOnInValue, IsLookahead, LooksAhead, IsStep};
+ghost use Rattle.rox_bytes.specs.ScanResults.{Finds, HasCharAt};
 
 use crate::cursor::{Cursor, Quote};
 use rox_bytes::byte_set::{
@@ -34,7 +34,8 @@ pub struct Lookahead {
 #[inline(always)]
 pub fn after_char(text: &str, at: usize) -> usize
     requires { HasCharAt text.now at }
-    ensures { IsAfterChar text.now at result }
+    ensures step { IsStep text.now at result }
+    ensures stops { result ≡ at → begins is_char text.now at ≡ false }
 {
     let here = text.as_bytes()[at];
     if here < 128 {
@@ -72,7 +73,8 @@ impl<'input> Cursor<'input> {
     #[inline]
     #[tactic(auto, unfolding(rox_reading::specs::Lexical::chars_up_to))]
     pub fn chars_up_to(&mut self, end: usize) -> Result<&'input str, Fault>
-        requires { IsBoundaryFrom self.old.text.now self.old.pos end }
+        requires onward { self.old.pos ≤ end }
+        requires cut { IsCharBoundary self.old.text.now end }
         ensures { ReadsChars end self.old self.new result }
     {
         let start = self.pos;
@@ -92,7 +94,8 @@ impl<'input> Cursor<'input> {
 #[inline(always)]
 #[tactic(auto, using(crate::proofs::LongerLemmas::apart_from), unfolding(rox_grammar::specs::Search::stands))]
 pub fn is_mark_at(text: &str, at: usize, mark: &[u8]) -> bool
-    requires { MayHaveMark text.now at mark.now }
+    requires within { at < length text.now }
+    requires some { 0 < length mark.now }
     ensures { result ≡ stands mark.now text.now at }
 {
     let bytes = text.as_bytes();

@@ -1,8 +1,8 @@
 //! Character data up to the end of its source, as most replacement texts are. If it has at most sixteen bytes, they are tested in
 //! one pass.
 
-ghost use Rattle.std.specs.Prelude.{◌≡◌, length, true};
-ghost use Rattle.rox_bytes.specs.ByteSets.{AllPass, EndsInBlock};
+ghost use Rattle.std.specs.Prelude.{◌≡◌, length, true, ◌≤◌, ◌+◌};
+ghost use Rattle.rox_bytes.specs.ByteSets.{AllPass};
 ghost use Rattle.rox_scan.specs.Lookahead as longer;
 ghost use Rattle.rox_scan.specs.Lookahead.{IsLookahead};
 
@@ -15,7 +15,9 @@ use std::simd::prelude::*;
 /// sixteen bytes.
 #[inline(always)]
 fn passes_to_end<C: ByteSet>(bytes: &[u8], at: usize) -> bool
-    requires { EndsInBlock bytes.now at }
+    requires room { 16 ≤ length bytes.now }
+    requires short { length bytes.now ≤ at + 16 }
+    requires within { at ≤ length bytes.now }
     ensures { result ≡ true → AllPass C.test bytes.now at (length bytes.now) }
 {
     let first = bytes.len() - 16;

@@ -80,11 +80,6 @@ pub record BindsListed (namespaces : List NamespaceDecl) (listed : List ℕ) (po
   pub bound : (ds : List NamespaceDecl) → IsBound namespaces (bound_place old) ds → IsBound namespaces (bound_place new) (namespace_at namespaces (slice_index listed position) ∷ ds)
   pub keeps : KeepsBindings old new
 
--- No prefix has a binding.
-pub record IsCleared (x : PrefixBindings) : Type 0 where
-  pub bound : (namespaces : List NamespaceDecl) → IsBound namespaces (bound_place x) []
-  pub keeps : (namespaces : List NamespaceDecl) (lists : List (List NamespaceDecl)) → AreBindingsOf namespaces lists x
-
 -- Whether the innermost of these scopes is `scope`, with `count` bindings replaced up to it.
 abbrev pub is_innermost : List ScopeFrame → (count scope : ℕ) → Bool
 is_innermost [] count scope = false
@@ -106,16 +101,6 @@ pub record LeavesInner {E : Type 0} (scope : ℕ) (old new : PrefixBindings) (re
 pub record MakesInnermost {E : Type 0} (namespaces : List NamespaceDecl) (lists : List (List NamespaceDecl)) (scope : ℕ) (old new : PrefixBindings) (result : Result (Unit {0}) E) : Type 0 where
   pub value : OnOk result (AreBindingsOf namespaces lists old → AreBindingsOf namespaces lists new × IsBound namespaces (bound_place new) (scope_at lists scope))
   pub same : is_innermost old.layers.items (length old.replaced.items) scope ≡ true → new ≡ old
-
--- Each listed place is below `n`, and there is one at `position`.
-pub record IsPosition (n : ℕ) (listed : List ℕ) (position : ℕ) : Type 0 where
-  pub places : ArePlaces n listed
-  pub within : position < length listed
-
--- Each listed place is below `n`, and `from` is at most their number.
-pub record IsStretchFrom (n : ℕ) (listed : List ℕ) (from : ℕ) : Type 0 where
-  pub places : ArePlaces n listed
-  pub stretch : from ≤ length listed
 
 -- The scope lists the declarations `own`, and then what `above` lists except what the element declares.
 pub record IsEntered (own : List NamespaceDecl) (xml : Bool) (above : List NamespaceDecl) (lists : List (List NamespaceDecl)) (scope : ℕ) : Type 0 where

@@ -1,10 +1,9 @@
 -- A scope without the prefixes that a tag declares, and what a tag declares in reverse order.
-use Rattle.std.specs.Prelude.{◌≡◌, ℕ, ◌≤◌, false, List, ◌++◌, Option, None, length, map, drop, reverse}
+use Rattle.std.specs.Prelude.{◌≡◌, ℕ, false, List, ◌++◌, Option, None, length, map, drop, reverse}
 use Rattle.rox_grammar.specs.Tree.{is_declared}
 use Rattle.rox_grammar.specs.Written.{NamespaceDecl}
-use Rattle.rox_scopes.specs.ScopeRows.{AreScopes}
 use Rattle.rox_scopes.specs.NamespaceViews.{namespace_view}
-use Rattle.rox_scopes.specs.Bindings.{IsBound, bound_place}
+use Rattle.rox_scopes.specs.Bindings.{bound_place}
 use Rattle.rox_scopes.specs.Scopes.{entries, places_in, PrefixesOnce}
 use Rattle.rox_scopes.specs.Ropes.{IsListed, IsScopeOf}
 use Rattle.rox_scopes.specs.declared.hidden.PrefixTables.{PrefixTables}
@@ -17,19 +16,6 @@ listed_by t scopes i = entries (map namespace_view t.namespaces.now) (places_in 
 -- Rows may be appended, and the row `scope` lists the declarations `ds`.
 abbrev pub AddsRows : PrefixTables → (old new : List Scope) → ℕ → List NamespaceDecl → Type 0
 AddsRows t old new scope ds = IsListed (map namespace_view t.namespaces.now) t.listed.now old t.listed.now new scope ds
-
--- A tag is read whose parent's scope `above` lists many, each prefix once, and has its bindings. What the tag declares is listed
--- from `from` on.
-pub record IsBelowMany (t : PrefixTables) (scopes : List Scope) (above from : ℕ) : Type 0 where
-  pub scope : IsScopeOf (length t.namespaces.now) t.listed.now scopes above
-  pub own : from ≤ length t.listed.now
-  pub once : PrefixesOnce (listed_by t scopes above)
-  pub bound : IsBound (map namespace_view t.namespaces.now) (bound_place t.present.now) (listed_by t scopes above)
-
--- The rows list some of `listed`, and `first` is at most its length.
-pub record IsTurnable (listed : List ℕ) (rows : List Scope) (first : ℕ) : Type 0 where
-  pub from : first ≤ length listed
-  pub scopes : AreScopes (length listed) rows
 
 -- What is listed from `first` on is listed once more, in reverse order. The new row `scope` reads it in the original order.
 pub record AddsBack (listed : List ℕ) (scopes : List Scope) (after : List ℕ) (rows : List Scope) (first scope : ℕ) : Type 0 where

@@ -3,7 +3,7 @@ use Rattle.std.specs.Prelude.{◌≡◌, ℕ, ◌-◌, ◌<◌, ◌≤◌, false
 use Rattle.std.specs.Borrow.{Bor}
 use Rattle.std.specs.List.{AllByRecursion}
 use Rattle.rox_grammar.specs.Written.{NamespaceDecl}
-use Rattle.rox_scopes.specs.ScopeRows.{AreRows, AreScopes, EndsWithin, count_at}
+use Rattle.rox_scopes.specs.ScopeRows.{AreRows, AreScopes, EndsWithin}
 use Rattle.rox_scopes.specs.Scopes.{entries, is_few_at, places_in, ArePlaces}
 use Rattle.rox_scopes.specs.declared.stored_scope.Scope.{Scope}
 use Rattle.rox_scopes.specs.declared.stored_scope.Stretch.{Stretch}
@@ -84,13 +84,3 @@ pub record IsListed (namespaces : List NamespaceDecl) (listed : List ℕ) (scope
 pub record IsPositionOf (listed : List ℕ) (table : List Scope) (row i position : ℕ) : Type 0 where
   pub within : position < length listed
   pub value : slice_index listed position ≡ slice_index (places_in listed table row) i
-
--- The place `found` is the one that the row lists at the index `i`.
-pub record IsPlaceOf (listed : List ℕ) (table : List Scope) (row i found : ℕ) : Type 0 where
-  pub value : found ≡ slice_index (places_in listed table row) i
-  pub place : (n : ℕ) → ArePlaces n listed → found < n
-
--- The row `scope` lists a place at the index `i`.
-pub record IsAmongRow (table : List Scope) (scope i : ℕ) : Type 0 where
-  pub row : IsRow table scope
-  pub index : i < count_at table scope

@@ -1,12 +1,12 @@
 //! The binding of each prefix for a scope that lists many namespaces. It is a map for the innermost scope, with what was replaced
 //! in it: the bindings of the scopes around. These are restored when one of those scopes is asked for.
 
-ghost use Rattle.std.specs.Prelude.{◌≡◌, ◌<◌, ◌-◌, List, Option, Some, None, true, length, map, reverse, slice_range, OnOk, if◌then◌else◌};
+ghost use Rattle.std.specs.Prelude.{◌≡◌, ◌<◌, ◌-◌, List, Option, Some, None, true, length, map, reverse, slice_range, OnOk, if◌then◌else◌, [], ◌≤◌};
 ghost use Rattle.rox_grammar.specs.Written.{NamespaceDecl};
 ghost use Rattle.rox_reading.specs.AtIndex.{scope_at};
 ghost use Rattle.rox_scopes.specs.ScopeRows.{lists_of};
 ghost use Rattle.rox_scopes.specs.NamespaceViews.{namespace_view};
-ghost use Rattle.rox_scopes.specs.Scopes.{prefix_view, entries};
+ghost use Rattle.rox_scopes.specs.Scopes.{prefix_view, entries, ArePlaces};
 ghost use Rattle.rox_scopes.specs.Ropes.{IsScopeOf};
 
 use crate::namespace::Namespace;
@@ -53,7 +53,7 @@ pub struct PrefixBindings<'input> {
 
 impl<'input> PrefixBindings<'input> {
     ghost use Rattle.std.specs.Prelude.{◌&&◌};
-    ghost use Rattle.rox_scopes.specs.Bindings.{bound_place, place_in, AreBindingsOf, BindsListed, IsBound, IsCleared, IsEntered, IsPosition, IsStretchFrom, LeavesInner, LeavesScope, MakesInnermost, PutsPlace, SetsPlace, TellsInnermost};
+    ghost use Rattle.rox_scopes.specs.Bindings.{bound_place, place_in, AreBindingsOf, BindsListed, IsBound, IsEntered, LeavesInner, LeavesScope, MakesInnermost, PutsPlace, SetsPlace, TellsInnermost};
     ghost use Rattle.rox_scopes.specs.declared.bindings.ScopeFrame.{ScopeFrame};
 
     /// Returns the bindings of no scope.
@@ -177,7 +177,8 @@ impl<'input> PrefixBindings<'input> {
         listed: &[u16],
         position: usize,
     ) -> Result<(), AllocError>
-        requires { IsPosition (length namespaces.now) listed.now position }
+        requires places { ArePlaces (length namespaces.now) listed.now }
+        requires within { position < length listed.now }
         ensures { OnOk result (BindsListed (map namespace_view namespaces.now) listed.now position
             self.old self.new) }
     {
@@ -192,7 +193,10 @@ impl<'input> PrefixBindings<'input> {
 
     /// Leaves all scopes.
     fn clear(&mut self)
-        ensures { IsCleared self.new }
+        ensures bound { (namespaces : List NamespaceDecl)
+            → IsBound namespaces (bound_place self.new) [] }
+        ensures keeps { (namespaces : List NamespaceDecl) (lists : List (List NamespaceDecl))
+            → AreBindingsOf namespaces lists self.new }
     {
         self.default = None;
         self.prefixes.clear();
@@ -237,7 +241,8 @@ impl<'input> PrefixBindings<'input> {
         own: OwnDeclarations,
         scope: u32,
     ) -> Result<(), AllocError>
-        requires { IsStretchFrom (length namespaces.now) listed.now own.from }
+        requires places { ArePlaces (length namespaces.now) listed.now }
+        requires stretch { own.from ≤ length listed.now }
         ensures { OnOk result ((lists : List (List NamespaceDecl)) (above : List NamespaceDecl)
             → AreBindingsOf (map namespace_view namespaces.now) lists self.old
             → IsBound (map namespace_view namespaces.now) (bound_place self.old) above

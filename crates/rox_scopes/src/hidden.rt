@@ -1,10 +1,12 @@
 //! Scopes without the prefixes that a tag declares (Namespaces in XML 1.0, section 6), and what a tag declares in reverse order.
 
-ghost use Rattle.std.specs.Prelude.{◌<◌, None, map, drop, IfOk};
+ghost use Rattle.std.specs.Prelude.{◌<◌, None, map, drop, IfOk, length, ◌≤◌};
 ghost use Rattle.rox_scopes.specs.NamespaceViews.{namespace_view};
-ghost use Rattle.rox_scopes.specs.Scopes.{prefix_view, entries, places_in, others, unlisted};
-ghost use Rattle.rox_scopes.specs.Bindings.{FindsIndex};
-ghost use Rattle.rox_scopes.specs.Hidden.{listed_by, AddsBack, AddsRows, IsBelowMany, IsTurnable, MayHide};
+ghost use Rattle.rox_scopes.specs.Scopes.{prefix_view, entries, places_in, others, unlisted, PrefixesOnce};
+ghost use Rattle.rox_scopes.specs.Bindings.{FindsIndex, IsBound, bound_place};
+ghost use Rattle.rox_scopes.specs.Hidden.{listed_by, AddsBack, AddsRows, MayHide};
+ghost use Rattle.rox_scopes.specs.Ropes.{IsScopeOf};
+ghost use Rattle.rox_scopes.specs.ScopeRows.{AreScopes};
 
 use crate::bindings::PrefixBindings;
 use crate::namespace::Namespace;
@@ -28,7 +30,8 @@ pub fn add_back(
     scopes: &mut Vec<Scope>,
     from: usize,
 ) -> Result<u32, AllocError>
-    requires { IsTurnable listed.old.items scopes.old.items from }
+    requires from { from ≤ length listed.old.items }
+    requires scopes { AreScopes (length listed.old.items) scopes.old.items }
     ensures { IfOk result (AddsBack listed.old.items scopes.old.items listed.new.items
         scopes.new.items from) }
 {
@@ -98,7 +101,12 @@ pub fn hide_own(
     scope: u32,
     own: OwnDeclarations,
 ) -> Result<u32, AllocError>
-    requires { IsBelowMany tables scopes.old.items scope own.from }
+    requires scope { IsScopeOf (length tables.namespaces.now) tables.listed.now scopes.old.items
+        scope }
+    requires own { own.from ≤ length tables.listed.now }
+    requires once { PrefixesOnce (listed_by tables scopes.old.items scope) }
+    requires bound { IsBound (map namespace_view tables.namespaces.now)
+        (bound_place tables.present.now) (listed_by tables scopes.old.items scope) }
     ensures { IfOk result (λ s. AddsRows tables.entry scopes.old.items scopes.new.items s
         (others (entries (map namespace_view tables.entry.namespaces.now)
         (drop own.from tables.entry.listed.now)) own.xml

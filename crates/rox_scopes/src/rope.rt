@@ -1,10 +1,10 @@
 //! Scopes that list many namespaces: ropes of stretches of the listed places. A row is a leaf or joins two earlier rows, so that
 //! a scope shares what it inherits with its parent's.
 
-ghost use Rattle.std.specs.Prelude.{◌≡◌, ◌<◌, ◌≤◌, ◌+◌, ◌-◌, ◌++◌, length, take, drop, reverse, slice_range, IfOk, IfSome};
+ghost use Rattle.std.specs.Prelude.{◌≡◌, ◌<◌, ◌≤◌, ◌+◌, ◌-◌, ◌++◌, length, take, drop, reverse, slice_range, IfOk, IfSome, slice_index, ℕ};
 ghost use Rattle.rox_scopes.specs.ScopeRows.{count_at};
-ghost use Rattle.rox_scopes.specs.Scopes.{places_in};
-ghost use Rattle.rox_scopes.specs.Ropes.{AddsRow, AreJoinable, IsAmongRow, IsAmongScope, IsAmongStretch, IsPlaceOf, IsPositionOf, IsRope, IsRow, Joins};
+ghost use Rattle.rox_scopes.specs.Scopes.{places_in, ArePlaces};
+ghost use Rattle.rox_scopes.specs.Ropes.{AddsRow, AreJoinable, IsAmongScope, IsAmongStretch, IsPositionOf, IsRope, IsRow, Joins};
 
 use crate::stored_scope::{Concat, Scope, Stretch};
 use rox_storage::growth::push;
@@ -87,7 +87,8 @@ fn fast_position_at(scopes: &[Scope], listed: &[u16], scope: u32, index: usize) 
 #[inline]
 pub fn place_at(scopes: &[Scope], listed: &[u16], scope: u32, index: usize) -> u16
     requires { IsAmongScope listed.now scopes.now scope index }
-    ensures { IsPlaceOf listed.now scopes.now scope index result }
+    ensures value { result ≡ slice_index (places_in listed.now scopes.now scope) index }
+    ensures place { (n : ℕ) → ArePlaces n listed.now → result < n }
 {
     listed[fast_position_at(scopes, listed, scope, index)]
 }
@@ -266,7 +267,8 @@ fn without_back(scopes: &mut Vec<Scope>, stretch: Stretch, index: usize) -> Resu
 
 /// Returns a row of what a scope lists except the place at `index`.
 pub fn without(scopes: &mut Vec<Scope>, scope: u32, index: usize) -> Result<u32, AllocError>
-    requires { IsAmongRow scopes.old.items scope index }
+    requires row { IsRow scopes.old.items scope }
+    requires index { index < count_at scopes.old.items scope }
     ensures { IfOk result (λ s. IsRope scopes.old.items scopes.new.items s
         (λ listed. take index (places_in listed scopes.old.items scope)
         ++ drop (index + 1) (places_in listed scopes.old.items scope))) }

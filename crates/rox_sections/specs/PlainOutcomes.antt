@@ -1,35 +1,23 @@
 -- What the fast path requires, and how it changes the cursor and the builder. It reads a construct only if that is plain.
-use Rattle.std.specs.Prelude.{◌≡◌, ◌≢◌, ℕ, ◌+◌, ◌<◌, ◌≤◌, ◌^◌, true, false, Bool, List, IfOk, OnOk, Result, Ok, length, slice_index, slice_range, vec_len, IsCharBoundary}
+use Rattle.std.specs.Prelude.{◌≡◌, ◌≢◌, ℕ, ◌+◌, ◌<◌, ◌≤◌, ◌^◌, true, false, Bool, List, IfOk, OnOk, Result, Ok, length, slice_index, vec_len, IsCharBoundary}
 use Rattle.std.specs.declared.alloc.AllocError.{AllocError}
 use Rattle.rox_grammar.specs.Chars.{is_part_char}
-use Rattle.rox_grammar.specs.FixedTexts.{word_text}
 use Rattle.rox_grammar.specs.Runs.{run_end}
-use Rattle.rox_grammar.specs.Search.{stands}
 use Rattle.rox_grammar.specs.State.{is_root}
-use Rattle.rox_grammar.specs.declared.fault.Word.{Word}
 use Rattle.rox_reading.specs.Machine as machine
 use Rattle.rox_reading.specs.Refusals.{Refusal}
 use Rattle.rox_reading.specs.State.{State}
-use Rattle.rox_bytes.specs.ByteSets.{StopsSet, is_part_byte}
+use Rattle.rox_bytes.specs.ByteSets.{is_part_byte}
 use Rattle.rox_bytes.specs.ScanResults.{Finds}
-use Rattle.rox_scan.specs.Lookahead.{IsLineRun}
 use Rattle.rox_scan.specs.declared.cursor.Cursor.{Cursor}
-use Rattle.rox_storage.specs.Storage.{IsOwnText}
-use Rattle.rox_storage.specs.declared.storage.StringStorage.{StringStorage}
-use Rattle.rox_builder.specs.BuilderState.{GoesOn, IsConsistent, IsInState, IsReady, IsReadyTo, KeepsOpen, KeepsState, ScansTo}
+use Rattle.rox_builder.specs.BuilderState.{GoesOn, IsConsistent, IsInState, IsReadyTo, KeepsOpen, KeepsState, ScansTo}
 use Rattle.rox_builder.specs.PendingText.{waiting}
 use Rattle.rox_sections.specs.PlainSteps.{Reads}
-use Rattle.rox_verbatim.specs.PlainNames.{EndsNear, EndsPrefix}
 use Rattle.rox_bytes.specs.RunEnds.{EndsRun}
 use Rattle.rox_bytes.specs.declared.byte_set.RunEnd.{RunEnd}
 use Rattle.rox_builder.specs.Readiness.{HasRoom}
 use Rattle.rox_builder.specs.declared.builder.Builder.{Builder}
 use Rattle.rox_builder.specs.declared.pending.Pending.TheVariants as pending
-
--- The word `word` is at the cursor, and there is room for one more row.
-pub record MayReadWord (word : Word) (c : Cursor) (b : Builder) : Type 0 where
-  pub here : stands (word_text word) c.text.now c.pos ≡ true
-  pub room : HasRoom c.text.now b
 
 -- `<` is at the cursor, and there is room for one more row.
 pub record MayReadPlain (c : Cursor) (b : Builder) : Type 0 where
@@ -44,20 +32,6 @@ pub record MayReadEnd (c : Cursor) (b : Builder) : Type 0 where
   pub settled : waiting b.pending ≡ 0
   pub fine : IsConsistent b.tables b.opened.items
 
--- A start tag may be at the cursor, the first ASCII bytes of its name end at `j`, and there is room for its row.
-pub record MayReadBare (c : Cursor) (j : ℕ) (b : Builder) : Type 0 where
-  pub here : slice_index c.text.now c.pos ≡ 60
-  pub near : StopsSet is_part_byte c.text.now (c.pos + 1) j
-  pub letter : 63 < slice_index c.text.now (c.pos + 1)
-  pub room : HasRoom c.text.now b
-
--- A start tag may be at `i`, and there is room for its row. Its name is of ASCII bytes and ends at `j`, without a colon.
-pub record MayReadAscii (src : List ℕ) (i j : ℕ) (b : Builder) : Type 0 where
-  pub here : slice_index src i ≡ 60
-  pub start : IsCharBoundary src i
-  pub near : EndsNear src (i + 1) j
-  pub room : HasRoom src b
-
 -- A start tag may be at `i`, `e` ends the first ASCII bytes of its name, and there is room for its row.
 pub record MayReadFirst (src : List ℕ) (i : ℕ) (e : RunEnd) (b : Builder) : Type 0 where
   pub here : slice_index src i ≡ 60
@@ -66,24 +40,12 @@ pub record MayReadFirst (src : List ℕ) (i : ℕ) (e : RunEnd) (b : Builder) : 
   pub letter : 63 < slice_index src (i + 1)
   pub room : HasRoom src b
 
--- A start tag may be at `i`, `e` ends the prefix of its name, and there is room for its row.
-pub record MayReadPrefixed (src : List ℕ) (i : ℕ) (e : RunEnd) (b : Builder) : Type 0 where
-  pub here : slice_index src i ≡ 60
-  pub start : IsCharBoundary src i
-  pub prefix : EndsPrefix src (i + 1) e
-  pub room : HasRoom src b
-
 -- A start tag may be at `i`, the first part of its name ends at `j`, and there is room for its row.
 pub record MayReadPart (src : List ℕ) (i j : ℕ) (b : Builder) : Type 0 where
   pub here : slice_index src i ≡ 60
   pub start : IsCharBoundary src i
   pub part : Finds src (i + 1) j (run_end is_part_char src (i + 1))
   pub room : HasRoom src b
-
--- There is room for `rows` rows, if any are required, and what the builder holds is consistent.
-pub record MayReadRows (rows : ℕ) (b : Builder) : Type 0 where
-  pub ready : 0 < rows → IsReady rows b
-  pub fine : IsConsistent b.tables b.opened.items
 
 abbrev pub any_context : machine.Context → Type 0
 any_context context = Unit {0}
@@ -103,13 +65,6 @@ pub record MayReadRunAt (src : List ℕ) (i : ℕ) (b : Builder) : Type 0 where
   pub cut : IsCharBoundary src i
   pub room : HasRoom src b
   pub apart : b.pending ≡ pending.None
-
--- The character data from `i` up to `j`, before a `<`, is a line as in `IsLineRun`, and `s` is its text. There is room for its row.
-pub record MayPutLine (src : List ℕ) (i j : ℕ) (s : StringStorage) (b : Builder) : Type 0 where
-  pub here : MayReadRunAt src i b
-  pub run : IsLineRun src i j
-  pub behind : slice_index src j ≡ 60
-  pub owned : IsOwnText (slice_range src (i + 1) j) s
 
 -- The construct at the cursor was read as `read` does, in a context that meets `such`, or nothing was read. It is read in the
 -- room that there is for rows, which leaves the builder as `leaves` says.
@@ -153,14 +108,6 @@ pub record ReadsStep (such : machine.Context → Type 0) (old new : Cursor) (b a
       → ScansTo context.limit end (Ok tt) new after (machine.step context old.text.now s)
   pub other : result ≡ false → (new ≡ old) × KeepsState b after
   pub goes : GoesOn old new after
-
--- The markup at the cursor was read, in the room that there is for rows, and no text is open that character data after it would
--- continue. Or nothing was read.
-pub record ReadsMarkup (such : machine.Context → Type 0) (old new : Cursor) (b after : Builder) (result : Bool) : Type 0 where
-  pub reads : ReadsStep such old new b after result
-  pub ready : result ≡ true → (most : ℕ) → IsReadyTo most b → IsReadyTo most after
-  pub apart : result ≡ true → StandsApart new after
-  pub moves : result ≡ true → old.pos < new.pos
 
 -- Some constructs were read, or none. `around` elements are open around the text, and `main` is true if it is the main text.
 pub record ReadsRows (around : ℕ) (main : Bool) (old new : Cursor) (b after : Builder) (result : Bool) : Type 0 where

@@ -1,7 +1,9 @@
 //! Plain character data, read by the fast path: it refers to no entity but the predefined ones.
 
-ghost use Rattle.std.specs.Prelude.{◌≡◌, true};
-ghost use Rattle.rox_sections.specs.PlainOutcomes.{MayPutLine, MayReadRun, MayReadRunAt, ReadsRun, ReadsRunAt};
+ghost use Rattle.std.specs.Prelude.{◌≡◌, true, slice_index, ◌+◌, slice_range};
+ghost use Rattle.rox_sections.specs.PlainOutcomes.{MayReadRun, MayReadRunAt, ReadsRun, ReadsRunAt};
+ghost use Rattle.rox_scan.specs.Lookahead.{IsLineRun};
+ghost use Rattle.rox_storage.specs.Storage.{IsOwnText};
 
 use crate::quick_sections::{MOST_BYTES, NOT_READ};
 use rox_builder::builder::Builder;
@@ -57,7 +59,10 @@ fn put_line<'input>(
     owned: StringStorage<'input>,
     builder: &mut Builder<'input>,
 ) -> usize
-    requires { MayPutLine text.now start end owned builder.old }
+    requires here { MayReadRunAt text.now start builder.old }
+    requires run { IsLineRun text.now start end }
+    requires behind { slice_index text.now end ≡ 60 }
+    requires owned { IsOwnText (slice_range text.now (start + 1) end) owned }
     ensures { ReadsRunAt (λ k. k.values.main ≡ true) text.entry.now start result builder.old builder.new }
 {
     builder.put_text(start, end, owned);

@@ -8,9 +8,9 @@ ghost use Rattle.rox_grammar.specs.declared.fault.Word.TheVariants as word;
 ghost use Rattle.rox_reading.specs.Machine as machine;
 ghost use Rattle.rox_reading.specs.Refusals.{lifted};
 ghost use Rattle.rox_builder.specs.Outcomes.{MayStep};
-ghost use Rattle.rox_builder.specs.Readiness.{IsApart, MayReadAt};
+ghost use Rattle.rox_builder.specs.Readiness.{IsApart, MayReadAt, HasRoom};
 ghost use Rattle.rox_builder.specs.declared.pending.Pending.TheVariants as pending;
-ghost use Rattle.rox_sections.specs.PlainOutcomes.{JoinsRun, MayReadWord, ReadsIf, ReadsSection, ReadsSteps, any_context};
+ghost use Rattle.rox_sections.specs.PlainOutcomes.{JoinsRun, ReadsIf, ReadsSection, ReadsSteps, any_context};
 ghost use Rattle.rox_sections.specs.Sections.{IsPlainSection, ReadsPiece, is_section_byte};
 
 use rox_builder::builder::Builder;
@@ -37,7 +37,8 @@ pub const MOST_BYTES: usize = 4294967295;
 /// Reads a comment, from `<!--`, if it is valid. Returns whether it was read.
 #[inline(always)]
 fn put_comment<'input>(cursor: &mut Cursor<'input>, builder: &mut Builder<'input>) -> bool
-    requires { MayReadWord word.CommentStart cursor.old builder.old }
+    requires here { stands (word_text word.CommentStart) cursor.old.text.now cursor.old.pos ≡ true }
+    requires room { HasRoom cursor.old.text.now builder.old }
     ensures { ReadsIf IsApart any_context (λ k src s. lifted (machine.comment_step k.limit src s))
         cursor.old cursor.new builder.old builder.new result }
 {

@@ -41,11 +41,6 @@ pub record AreSeen (seen : SeenNames) (rows : List AttributeRow) : Type 0 where
   pub from : seen.from ≤ length rows
   pub codes : seen.from + 4 < length rows → HaveCodes seen rows
 
--- The code of a local name, of which there are 1,024.
-pub record IsNameCode (local : List ℕ) (code : ℕ) : Type 0 where
-  pub is : code ≡ name_code local
-  pub within : code < 1024
-
 -- If more codes repeat, a tag is left to the general step.
 abbrev pub most_again : ℕ
 most_again = 32

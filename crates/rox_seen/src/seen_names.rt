@@ -2,7 +2,7 @@
 
 ghost use Rattle.std.specs.Prelude.{◌≡◌, ◌+◌, ◌-◌, ◌^◌, ◌<◌, ◌≤◌, min, nat_lt, length, List, replicate, None, bytes_eq, false};
 ghost use Rattle.rox_rows.specs.Rows.{attribute_rows};
-ghost use Rattle.rox_seen.specs.SeenNames.{most_again, name_sum, AreSeen, IsNameCode, PutsCode, SeesAll, TellsSeen};
+ghost use Rattle.rox_seen.specs.SeenNames.{most_again, name_sum, AreSeen, PutsCode, SeesAll, TellsSeen, name_code};
 
 use crate::recent_texts::Recent;
 use rox_compare::compare::{WORD, word_at};
@@ -63,7 +63,8 @@ fn name_sum(bytes: &[u8]) -> u64
 #[inline(always)]
 #[tactic(auto, unfolding(crate::specs::SeenNames::name_code))]
 fn name_code(local: &str) -> usize
-    ensures { IsNameCode local.now result }
+    ensures is { result ≡ name_code local.now }
+    ensures within { result < 1024 }
 {
     (name_sum(local.as_bytes()).wrapping_mul(SCATTER) >> 54) as usize
 }

@@ -34,11 +34,6 @@ pub record HasAttributes (old new : List AttributeRow) (namespaces : List Namesp
   pub same : map (attribute namespaces) more ≡ map (attribute_in scope) written
   pub within : AllByRecursion (λ a. NamespaceWithin (length namespaces) a.0.namespace) more
 
--- The attributes from the row `from` on can be those of an element.
-pub record MayMakeElement (t : ElementTables) (from : ℕ) : Type 0 where
-  pub within : from ≤ length (attribute_rows t.attributes)
-  pub few : length (attribute_rows t.attributes) ≤ most_attributes
-
 -- `e` is an element with the local name `name` in the scope `n`, and `number` is that of its namespace. Its attributes are those
 -- from the row `from` on.
 pub record IsElementFrom (t : ElementTables) (name : Bor (List ℕ)) (from n number : ℕ) (e : ElementData) : Type 0 where

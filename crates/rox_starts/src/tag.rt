@@ -1,15 +1,18 @@
 //! Start tags: attributes and declarations, each tested in order (XML 1.0 section 3.1, Namespaces in XML 1.0).
 
-ghost use Rattle.std.specs.Prelude.{◌≡◌, ◌<◌, ◌^◌, List, length, map, IfOk};
+ghost use Rattle.std.specs.Prelude.{◌≡◌, ◌<◌, ◌^◌, List, length, map, IfOk, ◌+◌, ◌≤◌, slice_index};
 ghost use Rattle.rox_grammar.specs.Failures.{name_view};
-ghost use Rattle.rox_starts.specs.ElementRow.{IsElementFrom, MakesElement, MayMakeElement, ReadsStartTag};
-ghost use Rattle.rox_starts.specs.TagReadiness.{IsBehind, MayReadTagBelow, MayResolve};
+ghost use Rattle.rox_starts.specs.ElementRow.{IsElementFrom, MakesElement, ReadsStartTag};
+ghost use Rattle.rox_starts.specs.TagReadiness.{MayResolve, MayReadBelow};
 ghost use Rattle.rox_markup.specs.Views.{attribute_view};
 ghost use Rattle.rox_grammar.specs.Entities.{Entity};
 ghost use Rattle.rox_values.specs.DeclaredEntities.{AreDeclared, values_in};
 ghost use Rattle.rox_values.specs.Values.{piece_view};
 ghost use Rattle.rox_names.specs.TagDeclarations.{unresolved_view};
 ghost use Rattle.rox_starts.specs.TagState.{IsReadingTag, GivesAttribute, ReadsAttributes, ReadsTagPart, TakesAttribute, IsStored, value_of};
+ghost use Rattle.rox_scan.specs.Views.{HasValue};
+ghost use Rattle.rox_rows.specs.Rows.{attribute_rows};
+ghost use Rattle.rox_grammar.specs.Document.{most_attributes};
 
 use rox_compare::compare::same_text;
 use rox_grammar::failure::Failure;
@@ -96,7 +99,9 @@ fn unresolved<'input>(
     openings_left: u32,
     scratch: &mut String,
 ) -> Result<(UnresolvedAttribute<'input>, u32), ParseError<'input>>
-    requires { IsBehind raw.now cursor.now }
+    requires value { HasValue cursor.now.text.now raw.now }
+    requires placed { raw.now.start < 2 ^ 63 }
+    requires end { cursor.now.pos ≡ raw.now.value_end + 1 }
     ensures { (es : List Entity) → AreDeclared es context.entry.entities.now
         → GivesAttribute (attribute_view raw.now) result
         (value_of (values_in es context.entry) cursor.now.text.now
@@ -217,7 +222,8 @@ pub fn element_of<'input>(
     scope: u32,
     namespace: u16,
 ) -> ElementData<'input>
-    requires { MayMakeElement elements.now from }
+    requires within { from ≤ length (attribute_rows elements.now.attributes) }
+    requires few { length (attribute_rows elements.now.attributes) ≤ most_attributes }
     ensures { IsElementFrom elements.entry.now local.entry from scope namespace result }
 {
     ElementData {
@@ -278,7 +284,9 @@ pub fn start_tag<'input>(
     around: TagContext,
     context: Context<'_, 'input>,
 ) -> Result<(StartTag<'input>, u32), ParseError<'input>>
-    requires { MayReadTagBelow cursor.old elements.old around.above }
+    requires there { cursor.old.pos < length cursor.old.text.now }
+    requires here { slice_index cursor.old.text.now cursor.old.pos ≡ 60 }
+    requires below { MayReadBelow elements.old around.above }
     ensures { ReadsStartTag context.entry around cursor.old cursor.new elements.old elements.new
         result }
 {

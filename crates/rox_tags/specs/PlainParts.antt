@@ -1,6 +1,6 @@
 -- What the parts of a plain tag require, and what is read of them.
 use Rattle.std.specs.Prelude.{◌≡◌, ℕ, ◌+◌, ◌<◌, ◌≤◌, ◌^◌, true, false, List, Option, length, slice_index, IfSome, [], bytes_eq, IsCharBoundary}
-use Rattle.rox_grammar.specs.Chars.{is_part_char, is_space}
+use Rattle.rox_grammar.specs.Chars.{is_part_char}
 use Rattle.rox_grammar.specs.Runs.{run_end}
 use Rattle.rox_grammar.specs.Written.{Name}
 use Rattle.rox_rows.specs.Rows.{attribute_rows, numbered_place}
@@ -11,12 +11,10 @@ use Rattle.rox_names.specs.TagScopes.{scope_in_tables}
 use Rattle.rox_names.specs.OpenElements.{IsNamespaceOf, MayHavePrefix, open_name}
 use Rattle.rox_names.specs.declared.open_element.OpenElement.{OpenElement}
 use Rattle.rox_grammar.specs.WellNamed.{may_name}
-use Rattle.rox_tags.specs.declared.quick_tag.NextItem.{NextItem}
 use Rattle.rox_tags.specs.declared.quick_tag.TagEnd.{TagEnd}
 use Rattle.rox_verbatim.specs.declared.quick_name.NamePlace.{NamePlace}
 use Rattle.rox_verbatim.specs.declared.quick_name.NameAt.{NameAt}
-use Rattle.rox_verbatim.specs.PlainNames.{EndsNear, EndsPrefix, IsPlainName}
-use Rattle.rox_bytes.specs.declared.byte_set.RunEnd.{RunEnd}
+use Rattle.rox_verbatim.specs.PlainNames.{EndsNear, IsPlainName}
 use Rattle.rox_grammar.specs.declared.fault.Word.TheVariants.{Xmlns}
 use Rattle.rox_grammar.specs.FixedTexts.{word_text}
 use Rattle.rox_grammar.specs.Failures.{name_view}
@@ -27,18 +25,6 @@ use Rattle.rox_tags.specs.PlainTag.{MayOpenBelow, MayOpenAt}
 pub record FindsElementNamespace (t : ElementTables) (n : ℕ) (name : Name) (result : Option ℕ) : Type 0 where
   pub is : IfSome result (λ s. IsNamespaceOf t n name (numbered_place s))
   pub known : IfSome result (λ _. may_name (scope_in_tables t n) name ≡ true)
-
--- A name at `i` may be resolved in the scope `n`.
-pub record MayNameIn (t : ElementTables) (n i : ℕ) : Type 0 where
-  pub scope : HasScope t n
-  pub few : length t.namespaces.items.items ≤ most_pairs
-  pub small : i < 2 ^ 63
-
--- The name `name` has a prefix, which may be looked up in the scope `n`.
-pub record MayNamePrefixed (t : ElementTables) (n : ℕ) (name : Name) : Type 0 where
-  pub scope : HasScope t n
-  pub few : length t.namespaces.items.items ≤ most_pairs
-  pub prefixed : bytes_eq name.prefix [] ≡ false
 
 -- The name `name` at `i` may be resolved in the scope of the open element `o`.
 pub record MayNameBelow (t : ElementTables) (o : OpenElement) (name : Name) (i : ℕ) : Type 0 where
@@ -64,12 +50,6 @@ pub record MayReadBareTag (src : List ℕ) (i j : ℕ) (t : ElementTables) (o : 
   pub below : MayOpenBelow t o
   pub few_attributes : length (attribute_rows t.attributes) ≤ most_attributes
 
--- A start tag may be at `p`, with a name of ASCII bytes without prefix. The name of its parent `o` has no prefix either.
-pub record MayReadNearTag (src : List ℕ) (p : NamePlace) (t : ElementTables) (o : OpenElement) : Type 0 where
-  pub here : MayOpenAt src p.start t o
-  pub near : EndsNear src (p.start + 1) p.part
-  pub bare : o.prefixed ≡ false
-
 -- A start tag may be at `i`, and its name `x` was read. Its parent is `o`, and its namespace has the number `s`.
 pub record MayReadNamed (src : List ℕ) (i : ℕ) (x : NameAt) (s : ℕ) (t : ElementTables) (o : OpenElement) : Type 0 where
   pub here : MayOpenAt src i t o
@@ -78,29 +58,13 @@ pub record MayReadNamed (src : List ℕ) (i : ℕ) (x : NameAt) (s : ℕ) (t : E
   pub space : IsNamespaceOf t o.scope (name_view x.name) (numbered_place s)
   pub known : may_name (scope_in_tables t o.scope) (name_view x.name) ≡ true
 
--- A start tag may be at `i`, with a name whose prefix `e` ends. Its parent is `o`.
-pub record MayReadPrefixedTag (src : List ℕ) (i : ℕ) (e : RunEnd) (t : ElementTables) (o : OpenElement) : Type 0 where
-  pub here : MayOpenAt src i t o
-  pub prefix : EndsPrefix src (i + 1) e
-
 -- A start tag may be at `p`, with a name whose first part ends at `p.part`. Its parent is `o`.
 pub record MayReadPlainTag (src : List ℕ) (p : NamePlace) (t : ElementTables) (o : OpenElement) : Type 0 where
   pub here : MayOpenAt src p.start t o
   pub part : Finds src (p.start + 1) p.part (run_end is_part_char src (p.start + 1))
-
--- If an end is returned, `/>` is at `i`.
-pub record EndsEmpty (src : List ℕ) (i : ℕ) (result : Option TagEnd) : Type 0 where
-  pub here : IfSome result (λ e. slice_index src (i + 1) ≡ 62)
-  pub place : IfSome result (λ e. (e.at ≡ i + 2) × (e.empty ≡ true))
-  pub cut : IfSome result (λ e. IsCharBoundary src e.at)
 
 -- If an end is returned, `>` or `/>` is at `i`.
 pub record EndsTag (src : List ℕ) (i : ℕ) (result : Option TagEnd) : Type 0 where
   pub opens : IfSome result (λ e. e.empty ≡ false → (slice_index src i ≡ 62) × (e.at ≡ i + 1))
   pub closes : IfSome result (λ e. e.empty ≡ true → (slice_index src i ≡ 47) × ((slice_index src (i + 1) ≡ 62) × (e.at ≡ i + 2)))
   pub cut : IfSome result (λ e. IsCharBoundary src e.at)
-
--- `x` is what follows the white space at `i`.
-pub record IsNextItem (src : List ℕ) (i : ℕ) (x : NextItem) : Type 0 where
-  pub end : Finds src i x.at (run_end is_space src i)
-  pub begins : x.may_begin ≡ true → (i < x.at) × (62 < slice_index src x.at)

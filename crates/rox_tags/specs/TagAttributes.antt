@@ -25,7 +25,6 @@ use Rattle.rox_seen.specs.declared.seen_names.SeenNames.{SeenNames}
 use Rattle.rox_names.specs.declared.unresolved_attribute.UnresolvedAttribute.{UnresolvedAttribute}
 use Rattle.rox_verbatim.specs.PlainNames.{IsAttributeName}
 use Rattle.rox_attributes.specs.PlainAttribute.{HasScope, IsPlainAttribute}
-use Rattle.rox_tags.specs.PlainParts.{EndsTag}
 use Rattle.rox_verbatim.specs.declared.quick_name.NameAt.{NameAt}
 use Rattle.rox_tags.specs.declared.quick_tag.TagEnd.{TagEnd}
 use Rattle.rox_tags.specs.declared.own_declaration.TagScope.{TagScope}
@@ -54,11 +53,6 @@ pub record IsNearDeclaration (src : List ℕ) (i : ℕ) (a : UnresolvedAttribute
   pub has : HasXmlns src a.start
   pub read : IsPlainDeclaration src a.start a
 
--- If the result is true, `xmlns` is at `i`, and the tag may declare namespaces.
-pub record MayDeclareHere (src : List ℕ) (i : ℕ) (tag : TagScope) (result : Bool) : Type 0 where
-  pub declares : result ≡ true → tag.declares ≡ true
-  pub here : result ≡ true → HasXmlns src i
-
 -- A scope that lists the first `n` places.
 abbrev pub first_places : ℕ → Scope
 first_places n = scope.Few (record { from = 0; until = n })
@@ -86,23 +80,12 @@ pub record ListsDeclaration (old new : ElementTables) (src : List ℕ) (i j : �
   pub end : one.end ≡ j
   pub listed : DeclaresNew old.namespaces.items.items old.listed.items new.namespaces.items.items new.listed.items one
 
--- The declaration at `i` was put into the tables, up to the offset returned, if it is plain. What is recorded of names stays.
-pub record PutsDeclaration (old new : ElementTables) (s after : SeenNames) (src : List ℕ) (i : ℕ) (result : Option ℕ) : Type 0 where
-  pub others : new ≡ record old { namespaces = new.namespaces; listed = new.listed }
-  pub lists : IfSome result (λ j. ListsDeclaration old new src i j)
-  pub kept : KeepsCodes s after
-
 -- The scope of the root element lists all listed places, if true is returned.
 pub record ListsOwn (old new : ElementTables) (result : Bool) : Type 0 where
   pub others : new ≡ record old { scopes = new.scopes }
   pub lists : result ≡ true → (own : Scope) → old.scopes.items ≡ first_places 0 ∷ own ∷ [] → new.scopes.items ≡ first_places 0 ∷ first_places (length old.listed.items) ∷ []
 
--- A declaration may be at `i`, and the tables have the scope of the root element.
-pub record MayPutDeclaration (src : List ℕ) (i : ℕ) (t : ElementTables) : Type 0 where
-  pub here : HasXmlns src i
-  pub scopes : length t.scopes.items ≡ 2
-
--- The declaration at `i` was put into the tables as in `PutsDeclaration`, and the scope of the root element lists it.
+-- The declaration at `i` was put into the tables, and the scope of the root element lists it.
 pub record DeclaresOwn (old new : ElementTables) (s after : SeenNames) (src : List ℕ) (i : ℕ) (result : Option ℕ) : Type 0 where
   pub others : new ≡ record old { namespaces = new.namespaces; listed = new.listed; scopes = new.scopes }
   pub lists : IfSome result (λ j. ListsDeclaration old new src i j)
@@ -205,8 +188,3 @@ pub record ReadsAttributes (old new : ElementTables) (tag : TagScope) (src : Lis
   pub cut : IfSome result (λ e. IsCharBoundary src e.at)
   pub few : IfSome result (λ e. length (attribute_rows new.attributes) ≤ most_attributes)
   pub grown : HasGrown tag old new
-
--- If an end is returned, `>` or `/>` is at `i`, and the tables have no more attributes than a document may have.
-pub record EndsAttributes (src : List ℕ) (i : ℕ) (t : ElementTables) (result : Option TagEnd) : Type 0 where
-  pub ends : EndsTag src i result
-  pub few : IfSome result (λ e. length (attribute_rows t.attributes) ≤ most_attributes)

@@ -2,7 +2,8 @@
 //! (Namespaces in XML 1.0 section 3).
 
 ghost use Rattle.std.specs.Prelude.{◌≡◌, IfSome, length, true, IsCharBoundary};
-ghost use Rattle.rox_tags.specs.TagAttributes.{DeclaresOwn, HasXmlns, IsDeclaredName, IsNearDeclaration, IsPlainDeclaration, ListsOwn, MayDeclareHere, MayPutDeclaration, PutsDeclaration};
+ghost use Rattle.rox_tags.specs.TagAttributes.{DeclaresOwn, HasXmlns, IsDeclaredName, IsNearDeclaration, IsPlainDeclaration, ListsOwn, ListsDeclaration};
+ghost use Rattle.rox_seen.specs.SeenNames.{KeepsCodes};
 
 use rox_bytes::byte_set::{ValueByte, skip_set};
 use rox_bytes::runs::{after_byte, is_at};
@@ -45,7 +46,8 @@ pub(crate) fn may_declare(text: &str, at: usize) -> bool
 /// Returns true only if the tag may declare namespaces, and `xmlns` is at `at` with a byte after it.
 #[inline(always)]
 pub fn declares_at(text: &str, at: usize, tag: TagScope) -> bool
-    ensures { MayDeclareHere text.now at tag result }
+    ensures declares { result ≡ true → tag.declares ≡ true }
+    ensures here { result ≡ true → HasXmlns text.now at }
 {
     tag.declares && may_declare(text, at)
 }
@@ -120,7 +122,11 @@ fn declared<'input>(
     seen: &mut SeenNames,
 ) -> Option<usize>
     requires { HasXmlns text.now start }
-    ensures { PutsDeclaration elements.old elements.new seen.old seen.new text.entry.now start result }
+    ensures others { elements.new ≡ record elements.old
+        { namespaces = elements.new.namespaces; listed = elements.new.listed } }
+    ensures lists { IfSome result (λ j. ListsDeclaration elements.old elements.new text.entry.now
+        start j) }
+    ensures kept { KeepsCodes seen.old seen.new }
 {
     let one = plain_declaration(text, start)?;
     let end = one.end;
@@ -160,7 +166,8 @@ pub fn put_declaration<'input>(
     elements: &mut ElementTables<'input>,
     seen: &mut SeenNames,
 ) -> Option<usize>
-    requires { MayPutDeclaration text.now start elements.old }
+    requires here { HasXmlns text.now start }
+    requires scopes { length elements.old.scopes.items ≡ 2 }
     ensures { DeclaresOwn elements.old elements.new seen.old seen.new text.entry.now start result }
 {
     let end = declared(text, start, elements, seen)?;

@@ -1,12 +1,19 @@
 //! Start tags by the fast path: those whose attribute values refer only to predefined entities (XML 1.0
 //! sections 3.1 and 4.6). Nothing fails here: the general step reads a tag that is not plain, or finds no room, from its `<`.
 
-ghost use Rattle.std.specs.Prelude.{◌≡◌, ◌<◌, ◌+◌, ◌-◌, ◌==◌, Ok, IfSome, slice_index, true, false};
+ghost use Rattle.std.specs.Prelude.{◌≡◌, ◌<◌, ◌+◌, ◌-◌, ◌==◌, Ok, IfSome, slice_index, true, false, ◌≤◌, length, IsCharBoundary, ◌^◌, [], bytes_eq};
 ghost use Rattle.rox_grammar.specs.Failures.{name_view};
-ghost use Rattle.rox_tags.specs.PlainParts.{EndsEmpty, EndsTag, FindsElementNamespace, IsNextItem, MayNameBelow, MayNameIn, MayNamePrefixed, MayNamePrefixedBelow, MayReadBareTag, MayReadNamed, MayReadNearTag, MayReadPlainTag, MayReadPrefixedTag};
+ghost use Rattle.rox_tags.specs.PlainParts.{EndsTag, FindsElementNamespace, MayNameBelow, MayNamePrefixedBelow, MayReadBareTag, MayReadNamed, MayReadPlainTag};
 ghost use Rattle.rox_verbatim.specs.PlainValues.{IsBeforeLast};
-ghost use Rattle.rox_tags.specs.PlainTag.{IsBareTag, ReadsTag};
-ghost use Rattle.rox_tags.specs.TagAttributes.{EndsAttributes, MayReadAttributes, ReadsAttributes};
+ghost use Rattle.rox_tags.specs.PlainTag.{IsBareTag, ReadsTag, MayOpenAt};
+ghost use Rattle.rox_tags.specs.TagAttributes.{MayReadAttributes, ReadsAttributes};
+ghost use Rattle.rox_grammar.specs.Document.{most_attributes, most_pairs};
+ghost use Rattle.rox_rows.specs.Rows.{attribute_rows};
+ghost use Rattle.rox_grammar.specs.Chars.{is_space};
+ghost use Rattle.rox_grammar.specs.Runs.{run_end};
+ghost use Rattle.rox_bytes.specs.ScanResults.{Finds};
+ghost use Rattle.rox_attributes.specs.PlainAttribute.{HasScope};
+ghost use Rattle.rox_verbatim.specs.PlainNames.{EndsNear, EndsPrefix};
 
 use crate::own_declaration::{TagScope, declares_at, put_declaration};
 use rox_attributes::prefix_cache::find_in_slot;
@@ -37,7 +44,9 @@ pub struct TagEnd {
 #[inline(always)]
 fn empty_end(text: &str, at: usize) -> Option<TagEnd>
     requires { slice_index text.now at ≡ 47 }
-    ensures { EndsEmpty text.now at result }
+    ensures here { IfSome result (λ e. slice_index text.now (at + 1) ≡ 62) }
+    ensures place { IfSome result (λ e. (e.at ≡ at + 2) × (e.empty ≡ true)) }
+    ensures cut { IfSome result (λ e. IsCharBoundary text.now e.at) }
 {
     let behind = after_byte(text, at, b'/');
     if !is_at(text, behind, b'>') {
@@ -60,7 +69,9 @@ pub struct NextItem {
 #[inline(always)]
 fn next_item(text: &str, at: usize) -> NextItem
     requires { IsBeforeLast text.now at }
-    ensures { IsNextItem text.now at result }
+    ensures end { Finds text.now at result.at (run_end is_space text.now at) }
+    ensures begins { result.may_begin ≡ true → (at < result.at)
+        × (62 < slice_index text.now result.at) }
 {
     let bytes = text.as_bytes();
     if bytes[at] == b' ' && bytes[at + 1] > b'>' {
@@ -96,7 +107,9 @@ fn tag_end(text: &str, at: usize) -> Option<TagEnd>
 /// Returns the end of a start tag, if it is at `at` and the document has no more attributes than it may have.
 #[inline(always)]
 fn attributes_end(text: &str, at: usize, elements: &ElementTables<'_>) -> Option<TagEnd>
-    ensures { EndsAttributes text.now at elements.now result }
+    ensures ends { EndsTag text.now at result }
+    ensures few { IfSome result (λ e. length (attribute_rows elements.now.attributes) ≤
+        most_attributes) }
 {
     if elements.attributes.len() > MOST_ATTRIBUTES {
         return None;
@@ -202,7 +215,9 @@ pub fn namespace_in_scope(
     at: usize,
     scope: u32,
 ) -> Option<u16>
-    requires { MayNameIn elements.now scope at }
+    requires scope { HasScope elements.now scope }
+    requires few { length elements.now.namespaces.items.items ≤ most_pairs }
+    requires small { at < 2 ^ 63 }
     ensures { FindsElementNamespace elements.entry.now scope (name_view name.entry) result }
 {
     let places = few_places(&elements.scopes, &elements.listed, scope)?;
@@ -221,7 +236,9 @@ fn prefixed_namespace(
     scope: u32,
     near: &mut usize,
 ) -> Option<u16>
-    requires { MayNamePrefixed elements.now scope (name_view name) }
+    requires scope { HasScope elements.now scope }
+    requires few { length elements.now.namespaces.items.items ≤ most_pairs }
+    requires prefixed { bytes_eq (name_view name).prefix [] ≡ false }
     ensures { FindsElementNamespace elements.entry.now scope (name_view name.entry) result }
 {
     let places = few_places(&elements.scopes, &elements.listed, scope)?;
@@ -338,7 +355,8 @@ pub fn start_tag_with_prefix<'input>(
     parent: &OpenElement<'input>,
     seen: &mut SeenNames,
 ) -> Option<PlainTag<'input>>
-    requires { MayReadPrefixedTag text.now start run elements.old parent.now }
+    requires here { MayOpenAt text.now start elements.old parent.now }
+    requires prefix { EndsPrefix text.now (start + 1) run }
     ensures { ReadsTag elements.old elements.new parent.entry.now text.entry.now start result }
 {
     let name_start = after_byte(text, start, b'<');
@@ -364,7 +382,9 @@ pub fn start_tag_without_prefix<'input>(
     above: &OpenElement<'input>,
     seen: &mut SeenNames,
 ) -> Option<PlainTag<'input>>
-    requires { MayReadNearTag text.now place elements.old above.now }
+    requires here { MayOpenAt text.now place.start elements.old above.now }
+    requires near { EndsNear text.now (place.start + 1) place.part }
+    requires bare { above.now.prefixed ≡ false }
     ensures { ReadsTag elements.old elements.new above.entry.now text.entry.now place.start
         result }
 {

@@ -1,5 +1,5 @@
 -- The entities that the code holds, and how it reads a text, compared with how a text is read.
-use Rattle.std.specs.Prelude.{◌≡◌, ◌-◌, ◌<◌, ℕ, zero, suc, Bool, false, List, Option, Result, Ok, Err, IfOk, option_map}
+use Rattle.std.specs.Prelude.{◌≡◌, ℕ, zero, suc, Bool, List, Option, Result, Ok, Err, option_map}
 use Rattle.std.specs.BTreeMap.{get_by}
 use Rattle.rox_grammar.specs.declared.fault.Fault.{Fault}
 use Rattle.rox_grammar.specs.declared.fault.Fault.TheVariants as fault
@@ -33,9 +33,3 @@ opened_at (suc d) main after openings_left = budget main after openings_left
 abbrev pub Opens : Result (Context × ℕ) Fault → Result ℕ Fault → Type 0
 Opens (Ok x) read = read ≡ Ok x.1
 Opens (Err f) read = read ≡ Err f
-
--- The context of the replacement text whose reference ends at `after`, with the openings left in it, or the fault.
-pub record OpensWithin (around : Context) (after openings_left elements : ℕ) (result : Result (Context × ℕ) Fault) : Type 0 where
-  pub value : Opens result (opened_at around.depth_left around.main after openings_left)
-  pub context : IfOk result (λ x. x.0 ≡ record { main = false; depth_left = around.depth_left - 1; open_around = elements; entities = around.entities })
-  pub deeper : IfOk result (λ x. x.0.depth_left < around.depth_left)

@@ -54,12 +54,6 @@ pub record BeginsStretch (kind : TextKind) (src : List ℕ) (i j : ℕ) : Type 0
   pub begins : BeginsBit kind src i j
   pub plain : is_special (slice_index src i) ≡ false
 
--- A part of a value may be from `i` up to `j`.
-pub record BeginsPlain (src : List ℕ) (i j : ℕ) : Type 0 where
-  pub start : IsCharBoundary src i
-  pub stop : IsCharBoundary src j
-  pub before : i < j
-
 -- A `&` is at `i`.
 pub record BeginsReference (src : List ℕ) (i : ℕ) : Type 0 where
   pub start : IsCharBoundary src i
@@ -119,13 +113,6 @@ abbrev pub GivesStretch : List ℕ → ℕ → Result ℕ Fault → Read Bit →
 GivesStretch src i (Ok j) read = read ≡ Ok (bytes_of (slice_range src i j), j)
 GivesStretch src i (Err f) read = read ≡ Err f
 
--- A stretch of a value in a replacement text ends as the result says.
-pub record EndsInnerStretch (src : List ℕ) (i stop : ℕ) (result : Result ℕ Fault) : Type 0 where
-  pub value : GivesStretch src i result (stretch_at false src stop i)
-  pub onward : IfOk result (λ j. i < j)
-  pub short : IfOk result (λ j. j ≤ stop)
-  pub cut : IfOk result (λ j. IsCharBoundary src j)
-
 -- What a value gives from `i` up to `j` was appended. Then the rest from `j` on gives what the value from `i` on gave, whatever is
 -- declared and may be opened. Each number of items is enough that is not less than that of the bytes.
 pub record PutsBits (kind : TextKind) (src : List ℕ) (i stop : ℕ) (old new : List ℕ) (j : ℕ) : Type 0 where
@@ -146,12 +133,6 @@ pub record HasChange (src : List ℕ) (i first j : ℕ) : Type 0 where
 -- A TAB or a LF gives a space in a value. Other bytes that are neither `&` nor CR give themselves.
 abbrev pub spaced_byte : ℕ → ℕ
 spaced_byte b = if b == 9 || b == 10 then 32 else b
-
--- The first byte that changes a value from `i` up to `j` is at `first`.
-pub record SpacesFrom (src : List ℕ) (i first j : ℕ) : Type 0 where
-  pub after : i ≤ first
-  pub before : first < j
-  pub stop : IsCharBoundary src j
 
 -- A replacement text that a reference names, and the offset after the reference. A failure is the fault of what is read.
 abbrev pub NamesThere : Result (Cursor × ℕ) Failure → Read Bit → Type 0

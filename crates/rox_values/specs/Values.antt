@@ -1,10 +1,10 @@
 -- How the texts and references in the code relate to what is read.
-use Rattle.std.specs.Prelude.{◌≡◌, ◌≢◌, ◌<◌, ◌≤◌, ◌-◌, ◌^◌, ℕ, Bool, true, false, not, ◌==◌, ◌||◌, List, [], ◌++◌, Option, Some, None, Result, Ok, Err, IfOk, drop, length, min, nat_lt, slice_index, slice_range, take, if◌then◌else◌, IsCharBoundary}
+use Rattle.std.specs.Prelude.{◌≡◌, ◌≢◌, ◌<◌, ◌≤◌, ◌-◌, ℕ, Bool, true, false, not, ◌==◌, ◌||◌, List, [], ◌++◌, Option, Some, None, Result, Ok, Err, IfOk, drop, slice_index, slice_range, take, if◌then◌else◌, IsCharBoundary}
 use Rattle.std.specs.Borrow.{Bor}
 use Rattle.std.specs.List.{list_any}
 use Rattle.rox_grammar.specs.declared.fault.Fault.{Fault}
 use Rattle.rox_grammar.specs.Content.{literals, line_ends}
-use Rattle.rox_grammar.specs.References.{bytes_end, digit_value, is_digit, is_hex_digit, number}
+use Rattle.rox_grammar.specs.References.{is_digit, is_hex_digit}
 use Rattle.rox_reading.specs.Lexical.{Read, ◌>>=◌}
 use Rattle.rox_reading.specs.Refusals.{Refusal}
 use Rattle.rox_reading.specs.Values as reading
@@ -19,7 +19,6 @@ use Rattle.rox_values.specs.DeclaredEntities.{AreDeclared}
 use Rattle.rox_values.specs.declared.entities.Entities.{Entities}
 use Rattle.rox_values.specs.Refusals.{IsRefusal}
 use Rattle.rox_values.specs.declared.parse_error.ParseError.{ParseError}
-use Rattle.rox_values.specs.declared.reference.Digits.{Digits}
 use Rattle.rox_values.specs.declared.reference.Reference.{Reference}
 use Rattle.rox_values.specs.declared.reference.Reference.TheVariants as reference
 use Rattle.rox_values.specs.declared.text_value.TextValue.{TextValue}
@@ -32,13 +31,6 @@ base_of hexadecimal = if hexadecimal then 16 else 10
 abbrev pub is_digit_of : Bool → ℕ → Bool
 is_digit_of true b = is_hex_digit b
 is_digit_of false b = is_digit b
-
--- The digits that start at `at`: where they end, and their number, or 2^32 if that is less.
-pub record AreDigits (hexadecimal : Bool) (text : List ℕ) (at : ℕ) (digits : Digits) : Type 0 where
-  pub place : digits.end ≡ bytes_end (is_digit_of hexadecimal) text at
-  pub number_is : digits.number ≡ min (number (base_of hexadecimal) (slice_range text at digits.end)) (2 ^ 32)
-  pub onward : at ≤ digits.end
-  pub within : digits.end ≤ length text
 
 abbrev pub reference_view : Reference → reading.Reference
 reference_view (reference.Character c) = reading.character_of c
@@ -101,22 +93,6 @@ pub record StopsAt (text : List ℕ) (at stop : ℕ) : Type 0 where
   pub before : at < stop
   pub cut : IsCharBoundary text stop
 
--- White space of a value other than a space is at `at`.
-pub record BeginsWhiteSpace (text : List ℕ) (at stop : ℕ) : Type 0 where
-  pub stop_is : StopsAt text at stop
-  pub here : reading.is_special (slice_index text at) ≡ true
-  pub no_reference : slice_index text at ≢ 38
-
--- Whether the byte is a digit, and the number that it means if it is one.
-pub record TellsDigit (hexadecimal : Bool) (byte found : ℕ) : Type 0 where
-  pub is : is_digit_of hexadecimal byte ≡ nat_lt found (base_of hexadecimal)
-  pub value : found < base_of hexadecimal → found ≡ digit_value byte
-
--- The offset `place` of a text is not before `at`.
-pub record IsOnward (text : List ℕ) (at place : ℕ) : Type 0 where
-  pub onward : at ≤ place
-  pub within : place ≤ length text
-
 -- What is read from the cursor on was appended, as `AppendsBit` says, with the declared entities, and the source stays.
 pub record AppendsBitFrom (entities : Entities) (old new : List ℕ) (before after : Cursor) (result : Result (Option Cursor) Failure) (read : List Entity → List ℕ → ℕ → Read reading.Bit) : Type 0 where
   pub value : (es : List Entity) → AreDeclared es entities → AppendsBit old new after result (read es before.text.now before.pos)
@@ -166,11 +142,6 @@ pub record HasData (src : List ℕ) (i stop : ℕ) : Type 0 where
   pub start : IsCharBoundary src i
   pub stop_cut : IsCharBoundary src stop
   pub before : i < stop
-
--- A CR is at `i`, in character data up to `stop`.
-pub record HasReturn (src : List ℕ) (i stop : ℕ) : Type 0 where
-  pub range : HasData src i stop
-  pub here : slice_index src i ≡ 13
 
 -- A byte of character data that does not change it is at `i`.
 pub record HasStretch (src : List ℕ) (i stop : ℕ) : Type 0 where

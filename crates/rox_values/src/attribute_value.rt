@@ -1,14 +1,14 @@
 //! The values of attributes, with references and white space replaced (XML 1.0 sections 3.3.3 and 4.1). `plain_bits` appends their
 //! items, and where it stops, this module opens an entity or tells the fault.
 
-ghost use Rattle.std.specs.Prelude.{◌≡◌, ◌-◌, ◌≤◌, ℕ, List, string_bytes, IsCharBoundary};
+ghost use Rattle.std.specs.Prelude.{◌≡◌, ◌-◌, ◌≤◌, ℕ, List, string_bytes, IsCharBoundary, ◌<◌};
 ghost use Rattle.rox_reading.specs.Values as spec;
 ghost use Rattle.rox_scan.specs.Views.{HasValue};
 ghost use Rattle.rox_grammar.specs.Entities.{Entity};
 ghost use Rattle.rox_reading.specs.Machine.{value_opener};
 ghost use Rattle.rox_scan.specs.Views.{replacement_view};
 ghost use Rattle.rox_values.specs.DeclaredEntities.{AreDeclared};
-ghost use Rattle.rox_values.specs.PlainBits.{BeginsPlain, BeginsReference, NamesText, kind_for};
+ghost use Rattle.rox_values.specs.PlainBits.{BeginsReference, NamesText, kind_for};
 ghost use Rattle.rox_values.specs.Values.{AppendsValue, GivesValue, piece_view};
 
 use crate::context::Context;
@@ -60,7 +60,9 @@ fn other_bit<'input>(
     stop: usize,
     context: Context<'_, 'input>,
 ) -> Result<(Cursor<'input>, usize), Failure>
-    requires { BeginsPlain text.now at stop }
+    requires start { IsCharBoundary text.now at }
+    requires stop { IsCharBoundary text.now stop }
+    requires before { at < stop }
     ensures { NamesText context.entry.entities.now text.entry.now at result
         (λ es. spec.value_bit_at context.entry.main es text.entry.now stop at) }
 {

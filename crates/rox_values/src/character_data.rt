@@ -3,7 +3,7 @@
 ghost use Rattle.std.specs.Prelude.{◌≡◌, ◌-◌, ℕ, false, ◌<◌, slice_index, true, string_bytes, IsCharBoundary};
 ghost use Rattle.rox_reading.specs.Values as spec;
 ghost use Rattle.rox_values.specs.PlainBits.{BeginsReference};
-ghost use Rattle.rox_values.specs.Values.{AppendsBitFrom, AppendsPartFrom, EndsData, GivesData, HasData, HasOffsets, HasReturn, HasStretch, PutsData, PutsDatum, StopsAt, is_data_byte};
+ghost use Rattle.rox_values.specs.Values.{AppendsBitFrom, AppendsPartFrom, EndsData, GivesData, HasData, HasOffsets, HasStretch, PutsData, PutsDatum, StopsAt, is_data_byte};
 
 use crate::context::Context;
 use crate::reference::{Reference, found, read_reference};
@@ -66,7 +66,8 @@ fn put_reference(text: &str, at: usize, out: &mut String) -> usize
 /// end, or 0 if memory is refused.
 #[inline(always)]
 fn put_line_end(text: &str, at: usize, stop: usize, out: &mut String) -> usize
-    requires { HasReturn text.now at stop }
+    requires range { HasData text.now at stop }
+    requires here { slice_index text.now at ≡ 13 }
     ensures { PutsDatum text.now at stop (string_bytes out.old) (string_bytes out.new) result }
 {
     if out.push('\n').is_err() {

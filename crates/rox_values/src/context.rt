@@ -1,8 +1,8 @@
 //! The context of a text: what differs between the main text and replacement texts.
 
-ghost use Rattle.std.specs.Prelude.{◌≡◌, ◌-◌, ◌<◌, false, true};
+ghost use Rattle.std.specs.Prelude.{◌≡◌, ◌-◌, ◌<◌, false, true, IfOk};
 ghost use Rattle.rox_reading.specs.Machine.{left_behind};
-ghost use Rattle.rox_values.specs.DeclaredEntities.{OpensWithin};
+ghost use Rattle.rox_values.specs.DeclaredEntities.{Opens, opened_at};
 
 use crate::entities::Entities;
 use rox_grammar::fault::Fault;
@@ -51,7 +51,15 @@ impl<'e, 'input> Context<'e, 'input> {
         openings_left: u32,
         open_around: usize,
     ) -> Result<(Context<'e, 'input>, u32), Fault>
-        ensures { OpensWithin self.entry after openings_left open_around result }
+        ensures value { Opens result (opened_at self.entry.depth_left self.entry.main after
+            openings_left) }
+        ensures context { IfOk result (λ x. x.0 ≡ record {
+          main = false;
+          depth_left = self.entry.depth_left - 1;
+          open_around = open_around;
+          entities = self.entry.entities;
+        }) }
+        ensures deeper { IfOk result (λ x. x.0.depth_left < self.entry.depth_left) }
     {
         if self.depth_left == 0 {
             return Err(Fault::EntityReferenceLoop(after));

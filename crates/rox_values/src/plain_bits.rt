@@ -1,14 +1,15 @@
 //! The items of attribute values that need no entity: characters, references to characters, and white space (XML 1.0 sections 3.3.3
 //! and 4.1). They are appended one after another, up to a reference to an entity, a fault, or the end of memory.
 
-ghost use Rattle.std.specs.Prelude.{◌≡◌, ◌-◌, ◌≤◌, ℕ, Bool, List, Ok, IfNone, IfSome, map, true, string_bytes, string_capacity, string_len};
+ghost use Rattle.std.specs.Prelude.{◌≡◌, ◌-◌, ◌≤◌, ℕ, Bool, List, Ok, IfNone, IfSome, map, true, string_bytes, string_capacity, string_len, slice_index, ◌≢◌, false, ◌<◌, IfOk, IsCharBoundary};
 ghost use Rattle.rox_grammar.specs.Entities.{Entity};
 ghost use Rattle.rox_bytes.specs.ByteSets.{AllPass, is_run_byte};
 ghost use Rattle.rox_reading.specs.Values as spec;
-ghost use Rattle.rox_values.specs.Values.{BeginsWhiteSpace, is_inner_byte};
-ghost use Rattle.rox_values.specs.PlainBits.{BeginsBit, BeginsReference, BeginsStretch, EndsInnerStretch, GivesCharacter, GivesNoBytes, HasChange, HasNoCharacter, IsRest, IsStretch, PutsBits, PutsOne, SpacesFrom, StopsAtOne, StopsWithRoom, depends_on_kind, spaced_byte};
+ghost use Rattle.rox_values.specs.Values.{is_inner_byte, StopsAt};
+ghost use Rattle.rox_values.specs.PlainBits.{BeginsBit, BeginsReference, BeginsStretch, GivesCharacter, GivesNoBytes, HasChange, HasNoCharacter, IsRest, IsStretch, PutsBits, PutsOne, StopsAtOne, StopsWithRoom, depends_on_kind, spaced_byte, GivesStretch};
 ghost use Rattle.rox_values.specs.declared.plain_bits.TextKind.{TextKind};
 ghost use Rattle.rox_values.specs.declared.plain_bits.TextKind.TheVariants as kind_of;
+ghost use Rattle.rox_reading.specs.Values.{stretch_at};
 
 use crate::reference::{Reference, read_reference};
 use rox_bytes::byte_set::{ByteSet, skip_set};
@@ -33,7 +34,9 @@ pub enum TextKind {
 /// if memory is refused.
 #[inline(always)]
 fn put_space(text: &str, at: usize, stop: usize, out: &mut String) -> usize
-    requires { BeginsWhiteSpace text.now at stop }
+    requires stop_is { StopsAt text.now at stop }
+    requires here { spec.is_special (slice_index text.now at) ≡ true }
+    requires no_reference { slice_index text.now at ≢ 38 }
     ensures puts { PutsOne kind_of.Either text.now at stop (string_bytes out.old)
         (string_bytes out.new) result }
     ensures stops { (kind : TextKind) → StopsAtOne kind text.now at stop (string_len out.old) (string_capacity out.old)
@@ -157,7 +160,10 @@ impl ByteSet for InnerByte {
 #[inline(never)]
 pub(crate) fn inner_stretch_end(text: &str, at: usize, stop: usize) -> Result<usize, Fault>
     requires { BeginsStretch kind_of.Replacement text.now at stop }
-    ensures { EndsInnerStretch text.now at stop result }
+    ensures value { GivesStretch text.now at result (stretch_at false text.now stop at) }
+    ensures onward { IfOk result (λ j. at < j) }
+    ensures short { IfOk result (λ j. j ≤ stop) }
+    ensures cut { IfOk result (λ j. IsCharBoundary text.now j) }
 {
     let front = &text[..stop];
     let end = skip_set::<InnerByte>(front, at);
@@ -292,7 +298,9 @@ fn spaced_text(alloc: Global, text: &str, lacking: &mut bool) -> Option<String>
 /// it is. It returns false if that byte, or the next one that changes the value, comes after sixteen bytes or more.
 #[inline(always)]
 fn is_spaced(text: &str, start: usize, first: usize, stop: usize) -> bool
-    requires { SpacesFrom text.now start first stop }
+    requires after { start ≤ first }
+    requires before { first < stop }
+    requires stop { IsCharBoundary text.now stop }
     ensures { result ≡ true → AllPass is_run_byte text.now first stop }
 {
     if first - start >= 16 || is_at(text, first, b'&') {

@@ -1,12 +1,13 @@
 //! References to characters and to entities, and the replacement text that one names (XML 1.0 sections 4.1 and 4.6).
 
-ghost use Rattle.std.specs.Prelude.{◌≡◌, ◌≤◌, ◌<◌, IfSome, List, length, slice_index};
+ghost use Rattle.std.specs.Prelude.{◌≡◌, ◌≤◌, ◌<◌, IfSome, List, length, slice_index, ◌^◌, min, slice_range, nat_lt};
 ghost use Rattle.rox_grammar.specs.Chars.{is_char};
 ghost use Rattle.rox_grammar.specs.Entities.{Entity, text_of};
 ghost use Rattle.rox_grammar.specs.References as spec;
 ghost use Rattle.rox_reading.specs.Values as reading;
 ghost use Rattle.rox_values.specs.DeclaredEntities.{AreDeclared};
-ghost use Rattle.rox_values.specs.Values.{AreDigits, FindsEntity, IsBeforeSemicolon, IsOnward, NamesCharacter, ReadsReference, TellsDigit, base_of, is_digit_of};
+ghost use Rattle.rox_values.specs.Values.{FindsEntity, IsBeforeSemicolon, NamesCharacter, ReadsReference, base_of, is_digit_of};
+ghost use Rattle.rox_grammar.specs.References.{bytes_end, number, digit_value};
 
 use crate::context::Context;
 use rox_bytes::chars::{Class, NameStart, XmlChar};
@@ -45,7 +46,8 @@ static HEX_DIGITS: [u8; 256] = *b"\
 /// base. A table takes no jumps that a processor would foretell badly.
 #[inline(always)]
 fn digit_of(byte: u8, hexadecimal: bool) -> u64
-    ensures { TellsDigit hexadecimal byte result }
+    ensures is { is_digit_of hexadecimal byte ≡ nat_lt result (base_of hexadecimal) }
+    ensures value { result < base_of hexadecimal → result ≡ digit_value byte }
 {
     if hexadecimal {
         HEX_DIGITS[byte as usize].wrapping_sub(64) as u64
@@ -59,7 +61,11 @@ fn digit_of(byte: u8, hexadecimal: bool) -> u64
 #[tactic(auto, using(crate::proofs::DigitLemmas::digit_steps, crate::proofs::DigitLemmas::one_more_digit))]
 fn read_digits(text: &str, at: usize, hexadecimal: bool) -> Digits
     requires { at ≤ length text.now }
-    ensures { AreDigits hexadecimal text.now at result }
+    ensures place { result.end ≡ bytes_end (is_digit_of hexadecimal) text.now at }
+    ensures number_is { result.number ≡ min (number (base_of hexadecimal)
+        (slice_range text.now at result.end)) (2 ^ 32) }
+    ensures onward { at ≤ result.end }
+    ensures within { result.end ≤ length text.now }
 {
     let base: u64 = if hexadecimal { 16 } else { 10 };
     let bytes = text.as_bytes();
@@ -101,7 +107,8 @@ fn number<'input>(
     digits: usize,
     hexadecimal: bool,
 ) -> Result<Reference<'input>, Fault>
-    requires { IsOnward cursor.old.text.now cursor.old.pos digits }
+    requires onward { cursor.old.pos ≤ digits }
+    requires within { digits ≤ length cursor.old.text.now }
     ensures { ReadsReference cursor.old cursor.new result (λ src at. reading.number_at
         (base_of hexadecimal) (is_digit_of hexadecimal) src at digits) }
 {

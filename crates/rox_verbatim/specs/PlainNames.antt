@@ -1,5 +1,5 @@
 -- Names that the fast path reads.
-use Rattle.std.specs.Prelude.{◌≡◌, ◌≢◌, ℕ, ◌+◌, ◌<◌, ◌≤◌, ◌==◌, ◌||◌, true, false, List, Option, Ok, length, slice_index, slice_range, IfSome, [], IfNone, IsCharBoundary}
+use Rattle.std.specs.Prelude.{◌≡◌, ◌≢◌, ℕ, ◌+◌, ◌<◌, ◌≤◌, ◌==◌, ◌||◌, true, false, List, Ok, length, slice_index, slice_range, IsCharBoundary}
 use Rattle.rox_grammar.specs.Chars.{is_name_start, is_part_char}
 use Rattle.rox_grammar.specs.Runs.{run_end, begins}
 use Rattle.rox_grammar.specs.Failures.{name_view}
@@ -29,21 +29,6 @@ pub record EndsFirstPart (src : List ℕ) (i j b : ℕ) : Type 0 where
   pub first : IsFirstPart src i j
   pub here : slice_index src j ≡ b
 
--- A name starts at `i`, and its prefix ends at the colon at `j`. The ASCII name-part bytes after the colon end at `k`.
-pub record EndsParts (src : List ℕ) (i j k : ℕ) : Type 0 where
-  pub first : EndsFirstPart src i j 58
-  pub near : EndsSet is_part_byte src (j + 1) k
-
--- A name may start at `i`, and its first part ends at `j`.
-pub record EndsPart (src : List ℕ) (i j : ℕ) : Type 0 where
-  pub start : IsCharBoundary src i
-  pub part : Finds src i j (run_end is_part_char src i)
-
--- A name whose first part is of ASCII bytes starts at `i`, and ends at `j`.
-pub record EndsNearPart (src : List ℕ) (i j : ℕ) : Type 0 where
-  pub start : IsCharBoundary src i
-  pub near : EndsNear src i j
-
 -- A prefix of ASCII bytes starts at `i` with a letter or `_`, and `e` ends it at a colon.
 pub record EndsPrefix (src : List ℕ) (i : ℕ) (e : RunEnd) : Type 0 where
   pub start : IsCharBoundary src i
@@ -65,13 +50,6 @@ pub record IsPlainName (src : List ℕ) (i : ℕ) (n : NameAt) : Type 0 where
   pub cut : IsCharBoundary src n.end
   pub local : i + length n.name.local.now ≤ n.end
 
--- The name `n`, which has one part, was read from `i` up to `j`.
-pub record IsWholeName (src : List ℕ) (i j : ℕ) (n : NameAt) : Type 0 where
-  pub value : qname_at src i ≡ Ok (name_view n.name, n.end)
-  pub local : i + length n.name.local.now ≡ n.end
-  pub end : n.end ≡ j
-  pub bare : n.name.prefix.now ≡ []
-
 -- The name `n` of an attribute is read at `i`, and `=` and a quote are right after it.
 pub record IsAttributeName (src : List ℕ) (i : ℕ) (n : NameAt) : Type 0 where
   pub value : qname_at src i ≡ Ok (name_view n.name, n.end)
@@ -85,8 +63,3 @@ pub record IsPrefixedName (src : List ℕ) (i j : ℕ) (n : NameAt) : Type 0 whe
   pub named : IsAttributeName src i n
   pub prefix : n.name.prefix.now ≡ slice_range src i j
   pub local : j + 1 + length n.name.local.now ≡ n.end
-
--- The result is the offset `i`, or none if `i` is 0.
-pub record IsSomePlace (i : ℕ) (result : Option ℕ) : Type 0 where
-  pub some : IfSome result (λ j. (j ≡ i) × (0 < j))
-  pub none : IfNone result (i ≡ 0)

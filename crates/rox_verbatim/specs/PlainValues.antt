@@ -1,24 +1,16 @@
 -- White space and attribute values that the fast path reads.
-use Rattle.std.specs.Prelude.{◌≡◌, ℕ, ◌+◌, ◌-◌, ◌<◌, ◌≤◌, ◌==◌, ◌||◌, true, List, Ok, length, slice_index, slice_range, IsCharBoundary}
+use Rattle.std.specs.Prelude.{◌≡◌, ℕ, ◌+◌, ◌<◌, ◌≤◌, ◌==◌, ◌||◌, true, List, Ok, length, slice_index, slice_range, IsCharBoundary}
 use Rattle.rox_grammar.specs.Names.{spaces_end}
 use Rattle.rox_grammar.specs.Content.{is_verbatim_value}
 use Rattle.rox_reading.specs.Markup.{raw_value_at}
 use Rattle.rox_reading.specs.Values.{is_special}
 use Rattle.rox_bytes.specs.ByteSets.{EndsSet, is_value_byte}
 use Rattle.rox_scan.specs.Lookahead.{IsLookahead, ends_value}
-use Rattle.rox_bytes.specs.Windows.{SeesQuote}
-use Rattle.rox_bytes.specs.declared.window.Window.{Window}
 
 -- A character starts at `i`, before the last byte.
 pub record IsBeforeLast (src : List ℕ) (i : ℕ) : Type 0 where
   pub cut : IsCharBoundary src i
   pub within : i + 1 < length src
-
--- A quote is right before `i`.
-pub record HasQuoteBefore (src : List ℕ) (i : ℕ) : Type 0 where
-  pub some : 0 < i
-  pub within : i ≤ length src
-  pub quote : (slice_index src (i - 1) == 39 || slice_index src (i - 1) == 34) ≡ true
 
 -- The quote `q` is at `i`.
 pub record IsQuoteAt (src : List ℕ) (i q : ℕ) : Type 0 where
@@ -58,16 +50,6 @@ pub record SeesValue (src : List ℕ) (i q j : ℕ) : Type 0 where
   pub cut : IsCharBoundary src i
   pub near : EndsSet is_value_byte src i j
   pub quote : (q == 39 || q == 34) ≡ true
-
--- A value in the quotes `q` may start `before` bytes after the start of the window `w`.
-pub record SeesStart (src : List ℕ) (w : Window) (before q : ℕ) : Type 0 where
-  pub seen : SeesQuote src w before
-  pub begins : BeginsValue src (w.at + before) q
-
--- A value may start at `i`, after the quote `q`. Each byte up to `j` needs no replacement, and `j` is before the end.
-pub record SeesEnd (src : List ℕ) (i q j : ℕ) : Type 0 where
-  pub sees : SeesValue src i q j
-  pub within : j < length src
 
 -- A value that needs no replacement is at `i`, after the quote `quote`, and ends at `j`.
 pub record HasPlainValue (src : List ℕ) (i quote j : ℕ) (value : List ℕ) : Type 0 where

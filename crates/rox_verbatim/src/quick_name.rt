@@ -1,11 +1,13 @@
 //! Names by the fast path, which reads only valid ones and reports no fault (Namespaces in XML section 4).
 
-ghost use Rattle.std.specs.Prelude.{◌≡◌, ◌<◌, ◌-◌, ◌==◌, ◌||◌, Ok, IfSome, true, false, [], IsCharBoundary};
-ghost use Rattle.rox_grammar.specs.Runs.{begins};
+ghost use Rattle.std.specs.Prelude.{◌≡◌, ◌<◌, ◌-◌, ◌==◌, ◌||◌, Ok, IfSome, true, false, [], IsCharBoundary, ◌+◌, IfNone, length};
+ghost use Rattle.rox_grammar.specs.Runs.{begins, run_end};
 ghost use Rattle.rox_reading.specs.Lexical.{qname_at};
 ghost use Rattle.rox_bytes.specs.ByteSets.{EndsSet, is_part_byte};
-ghost use Rattle.rox_verbatim.specs.PlainNames.{EndsFirstPart, EndsNear, EndsNearPart, EndsPart, EndsParts, EndsPrefix, IsLocalPart, IsPlainName, IsPrefixedName, IsSomePlace, IsWholeName};
-ghost use Rattle.rox_bytes.specs.ScanResults.{EndsNear as StartsPart};
+ghost use Rattle.rox_verbatim.specs.PlainNames.{EndsFirstPart, EndsNear, EndsPrefix, IsLocalPart, IsPlainName, IsPrefixedName};
+ghost use Rattle.rox_bytes.specs.ScanResults.{EndsNear as StartsPart, Finds};
+ghost use Rattle.rox_grammar.specs.Chars.{is_part_char};
+ghost use Rattle.rox_grammar.specs.Failures.{name_view};
 
 use crate::quick_value::quote_after_equals;
 use rox_bytes::byte_set::{PartByte, RunEnd, part_end, skip_second, skip_set};
@@ -32,7 +34,8 @@ pub struct NameAt<'input> {
 #[inline(always)]
 #[tactic(auto, unfolding(rox_reading::specs::Lexical::qname_at))]
 pub fn name_of_part<'input>(text: &'input str, start: usize, colon: usize) -> Option<NameAt<'input>>
-    requires { EndsPart text.now start colon }
+    requires start { IsCharBoundary text.now start }
+    requires part { Finds text.now start colon (run_end is_part_char text.now start) }
     ensures { IfSome result (λ n. IsPlainName text.entry.now start n) }
 {
     if !begins::<NameStart>(text, start) {
@@ -100,7 +103,8 @@ fn name_of_parts<'input>(
     colon: usize,
     near: usize,
 ) -> Option<NameAt<'input>>
-    requires { EndsParts text.now start colon near }
+    requires first { EndsFirstPart text.now start colon 58 }
+    requires near { EndsSet is_part_byte text.now (colon + 1) near }
     ensures { IfSome result (λ n. IsPlainName text.entry.now start n) }
 {
     let local = after_byte(text, colon, b':');
@@ -141,7 +145,8 @@ pub fn name_of_prefix<'input>(
 /// Returns the offset `place`, or `None` if it is 0.
 #[inline(always)]
 pub fn some_place(place: usize) -> Option<usize>
-    ensures { IsSomePlace place result }
+    ensures some { IfSome result (λ j. (j ≡ place) × (0 < j)) }
+    ensures none { IfNone result (place ≡ 0) }
 {
     if place == 0 {
         return None;
@@ -174,7 +179,10 @@ pub fn prefixed_name<'input>(text: &'input str, start: usize, part: usize) -> Op
 #[tactic(auto, unfolding(rox_reading::specs::Lexical::qname_at))]
 pub fn name_without_prefix<'input>(text: &'input str, start: usize, part: usize) -> NameAt<'input>
     requires { EndsFirstPart text.now start part 61 }
-    ensures { IsWholeName text.entry.now start part result }
+    ensures value { qname_at text.entry.now start ≡ Ok (name_view result.name, result.end) }
+    ensures local { start + length result.name.local.now ≡ result.end }
+    ensures end { result.end ≡ part }
+    ensures bare { result.name.prefix.now ≡ [] }
 {
     let name = QName {
         prefix: "",
@@ -187,7 +195,8 @@ pub fn name_without_prefix<'input>(text: &'input str, start: usize, part: usize)
 /// with no digit or sign, as its first byte shows.
 #[inline(always)]
 pub fn ascii_name<'input>(text: &'input str, start: usize, near: usize) -> &'input str
-    requires { EndsNearPart text.now start near }
+    requires start { IsCharBoundary text.now start }
+    requires near { EndsNear text.now start near }
     ensures { qname_at text.entry.now start
         ≡ Ok (record { prefix = []; local = result.now }, near) }
 {

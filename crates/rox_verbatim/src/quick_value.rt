@@ -1,7 +1,8 @@
 //! Attribute values by the fast path: where a value starts, and where one ends that needs no replacement (XML 1.0 [10]).
 
-ghost use Rattle.std.specs.Prelude.{◌≡◌, ◌<◌, ◌≤◌, ◌+◌, ◌-◌, ◌==◌, ◌||◌, IfSome, length, slice_range, true, IsCharBoundary};
-ghost use Rattle.rox_verbatim.specs.PlainValues.{BeginsValue, EndsVerbatim, HasPlainValue, HasQuoteBefore, IsQuoteAt, IsQuoteBehindEquals, IsValueStart, SeesEnd, SeesStart, SeesValue};
+ghost use Rattle.std.specs.Prelude.{◌≡◌, ◌<◌, ◌≤◌, ◌+◌, ◌-◌, ◌==◌, ◌||◌, IfSome, length, slice_range, true, IsCharBoundary, slice_index};
+ghost use Rattle.rox_verbatim.specs.PlainValues.{BeginsValue, EndsVerbatim, HasPlainValue, IsQuoteAt, IsQuoteBehindEquals, IsValueStart, SeesValue};
+ghost use Rattle.rox_bytes.specs.Windows.{SeesQuote};
 
 use crate::quick_space::white_space_end;
 use rox_bytes::byte_set::{QuotedByte, ValueByte, skip_set};
@@ -70,7 +71,8 @@ pub fn unchanged_value_end(text: &str, start: usize, quote: u8, near: usize) -> 
 /// replacement.
 #[inline(always)]
 fn closes_value(text: &str, start: usize, quote: u8, near: usize) -> bool
-    requires { SeesEnd text.now start quote near }
+    requires sees { SeesValue text.now start quote near }
+    requires within { near < length text.now }
     ensures { result ≡ true → HasPlainValue text.now start quote near
         (slice_range text.now start near) }
 {
@@ -128,7 +130,10 @@ pub fn any_value_start(text: &str, at: usize) -> usize
 /// Returns the quote after which a value starts at `start`.
 #[inline(always)]
 pub fn quote_before(text: &str, start: usize) -> u8
-    requires { HasQuoteBefore text.now start }
+    requires some { 0 < start }
+    requires within { start ≤ length text.now }
+    requires quote { (slice_index text.now (start - 1) == 39 || slice_index text.now (start - 1)
+        == 34) ≡ true }
     ensures { IsQuoteAt text.now (start - 1) result }
 {
     text.as_bytes()[start - 1]
@@ -194,7 +199,8 @@ pub fn value_in_window<'input>(
     before: usize,
     quote: u8,
 ) -> Option<UnchangedValue<'input>>
-    requires { SeesStart text.now window before quote }
+    requires seen { SeesQuote text.now window before }
+    requires begins { BeginsValue text.now (window.at + before) quote }
     ensures { IfSome result
         (λ v. HasPlainValue text.entry.now (window.at + before) quote v.end v.text.now) }
 {

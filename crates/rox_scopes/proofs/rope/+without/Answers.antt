@@ -76,7 +76,7 @@ without-requires-in-Concat t c =
     let n : c.count-before.result ≡ count_at old p.first = cc in
     let x : count_at old c.args.scope ≡ p.count = r.count in
     let y : p.count ≡ count_at old p.first + count_at old p.rest = r.row.2 in
-    (omega arith, record { row = record { within = omega arith; rows = c.requires.row.rows }; index = omega arith })
+    (omega arith, (record { within = omega arith; rows = c.requires.row.rows }, omega arith))
 
 pub returns-in_ok-rest-in-Concat : goal.returns-in_ok-rest-in-Concat
 returns-in_ok-rest-in-Concat t c =
