@@ -18,14 +18,17 @@ use anyhow::{Context, Result, bail};
 use std::env;
 use std::process::ExitCode;
 
+const USAGE: &str =
+    "usage: examples elements | circles | shapes FILE | dependencies FILE | book FILE";
+
 fn main(rt: HostRuntime) -> Result<ExitCode> {
     let mut words = env::args(&rt)?.skip(1);
-    let example = words.next().context("usage: examples NAME [FILE]")?;
+    let example = words.next().context(USAGE)?;
     match example.as_str() {
         "elements" => return Ok(elements::main(rt)?),
         "circles" => circles::run(&rt)?,
         name => {
-            let file = words.next().context("usage: examples NAME FILE")?;
+            let file = words.next().context(USAGE)?;
             run(&rt, name, file.as_str())?;
         }
     }

@@ -14,11 +14,11 @@ use Rattle.rox_rows.specs.Rows.{attribute_rows, numbered_place}
 use Rattle.rox_reading.specs.AtIndex.{namespace_at, scope_at}
 use Rattle.rox_scopes.specs.ScopeRows.{lists_of}
 use Rattle.rox_scopes.specs.NamespaceViews.{namespace_view}
-use Rattle.rox_scopes.specs.Scopes.{ArePlaces, PrefixesOnce, entries}
+use Rattle.rox_scopes.specs.Scopes.{PrefixesOnce, entries}
 use Rattle.rox_names.specs.TagScopes.{lists_in, scope_in_tables}
 use Rattle.rox_names.specs.declared.tables.ElementTables.{ElementTables}
 use Rattle.rox_scopes.specs.declared.stored_scope.Scope.{Scope}
-use Rattle.rox_scopes.proofs.Ropes.{all_places}
+use Rattle.rox_scopes.proofs.Ropes.{all_places, none_below}
 use Rattle.rox_names.specs.OpenElements.{IsNamespaceOf}
 use Rattle.rox_names.specs.declared.start_tag.StartTag.{StartTag}
 use Rattle.rox_starts.specs.ElementRow.{IsElementFrom}
@@ -30,10 +30,6 @@ use Rattle.rox_tags.proofs.TagAttributes.{has_scope, plain_count, root_scopes, s
 use Rattle.rox_content.specs.RootTag.{IsBlank}
 
 -- ---- the scope of a root element
-
-pub none_below : (xs : List ℕ) → ArePlaces 0 xs → xs ≡ []
-none_below [] h = refl
-none_below (x ∷ xs) (less, h) = absurd (omega arith)
 
 -- one scope of nothing lists nothing
 pub blank_lists : (scopes : List Scope) → length scopes ≡ 1 → lists_of [] [] scopes ≡ [] ∷ []

@@ -5,11 +5,12 @@ use std::alloc::{AllocError, AllocFailed};
 
 /// Why `Document::parse` or `Document::parse_with_options` returned no document.
 ///
-/// Most kinds keep the position of the fault: a row and a column of the text, or of the replacement text or the resolver's answer
-/// that the fault is in. `position` returns it. `docs/ERRORS.md` says for each kind when a parse returns it, and at which position.
+/// Most kinds keep the position of the fault: a row and a column of the text, also for a fault in the literal of an entity, or of
+/// the resolver's answer that the fault is in. `position` returns it. `docs/ERRORS.md` says for each kind when a parse returns it,
+/// and at which position.
 ///
-/// `InvalidChar2` and `InvalidString` keep fixed words. A parse without a resolver returns an `Error<'static>`; one with a resolver
-/// returns an `Error<'w>` with any lifetime `'w`.
+/// `InvalidChar2` and `InvalidString` keep fixed words. `Document::parse` returns an `Error<'static>`, and
+/// `Document::parse_with_options` an `Error<'w>` with any lifetime `'w`.
 ///
 /// ```
 /// let text = "<a>\n</b>";
@@ -22,7 +23,7 @@ use std::alloc::{AllocError, AllocFailed};
 pub enum Error<'w> {
     /// The prefix `xml` is declared with a URI other than its own (Namespaces in XML 3).
     InvalidXmlPrefixUri(TextPos),
-    /// The URI of the prefix `xml` is declared for another prefix (Namespaces in XML 3).
+    /// The URI of the prefix `xml` is declared for another prefix, or for the default namespace (Namespaces in XML 3).
     UnexpectedXmlUri(TextPos),
     /// The URI of the prefix `xmlns` is declared (Namespaces in XML 3).
     UnexpectedXmlnsUri(TextPos),
@@ -44,10 +45,9 @@ pub enum Error<'w> {
     MalformedEntityReference(TextPos),
     /// References are nested more than ten deep, or a reference of the text opens more than 256 replacement texts.
     EntityReferenceLoop(TextPos),
-    /// The replacement text of an entity has a `<`, or a reference that gives one, and is included in the value of an attribute
-    /// (XML 1.0 3.1). An attribute that is written in a replacement text or an answer may have no such reference either. The
-    /// standard allows a reference that gives `<`, as in `<!ENTITY a '&lt;'>`. For a `<` in the value itself the error is
-    /// `InvalidChar`.
+    /// A replacement text in the value of an attribute has a `<`, or a reference gives a `<` in such a text or in a value that is
+    /// written in a replacement text or an answer (XML 1.0 3.1). The standard allows a reference that gives `<`, as in
+    /// `<!ENTITY a '&lt;'>`. For a `<` in the value itself the error is `InvalidChar`.
     InvalidAttributeValue(TextPos),
     /// Two attributes of an element have the same expanded name (Namespaces in XML 6.3). Keeps the local name.
     DuplicatedAttribute(String, TextPos),
@@ -67,7 +67,7 @@ pub enum Error<'w> {
     /// The elements of the document would list more than 65,535 distinct pairs of a prefix and its URI. The default namespace
     /// counts like a prefix.
     NamespacesLimitReached,
-    /// A Name is expected and missing (XML 1.0 2.3).
+    /// A Name (XML 1.0 2.3) or a QName (Namespaces in XML 4) is expected and missing.
     InvalidName(TextPos),
     /// A character is not allowed in XML (XML 1.0 2.2). Keeps the character.
     NonXmlChar(char, TextPos),
@@ -80,8 +80,8 @@ pub enum Error<'w> {
     /// The definition of an entity starts with `S` or `P`, but not with `SYSTEM` or `PUBLIC` (XML 1.0 4.2.2). If it starts with
     /// another character that is not a quote, the error is `InvalidChar2`.
     InvalidExternalID(TextPos),
-    /// The resolver refused a request. Keeps the position of the declaration that the request is for, and the words of the
-    /// resolver.
+    /// The resolver refused a request. Keeps a position in the declaration that the request is for, after its external identifier,
+    /// and the words of the resolver.
     EntityResolver(TextPos, String),
     /// A comment contains `--`, or ends in `-` (XML 1.0 2.5).
     InvalidComment(TextPos),
@@ -90,7 +90,8 @@ pub enum Error<'w> {
     /// No construct of the grammar starts here, or an `<!ELEMENT`, `<!ATTLIST` or `<!NOTATION` of the document type declaration that
     /// starts here has no `>`.
     UnknownToken(TextPos),
-    /// The text ends inside of a construct.
+    /// The text, or a replacement text, ends inside a construct. If a fixed text such as `-->` is missing at the end, the error is
+    /// `InvalidString`.
     UnexpectedEndOfStream,
     /// Memory ran out. This says nothing about the text.
     OutOfMemory,

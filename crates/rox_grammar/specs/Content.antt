@@ -100,7 +100,7 @@ module _ (main : Bool) (Includes : Inclusion) (src : List ℕ) where
         → Includes.content name b items c → Parts borrowed start stop p j c d more → Parts borrowed start stop p i b d (join (piece start stop false ss) (join items more))
 
   -- XML 3.3.3: the value from `i` up to `j`. Departure (`a_character`): in a replacement text a reference may not give `<`, where
-  -- 3.1 and 4.6 let `&lt;` give one.
+  -- 3.1 and 4.6 let `&lt;` give one, and in an answer also `&#60;`.
   pub data Value (j : ℕ) : (i b c : ℕ) → List ℕ → Type 0 where
     value_ends : (b : ℕ) → Value j j b b []
     line_end : (i b c : ℕ) (v : List ℕ) → i + 1 < j → byte src i ≡ code "\r" → byte src (i + 1) ≡ code "\n" → Value j (i + 1) b c v → Value j i b c v

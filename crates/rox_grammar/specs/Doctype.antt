@@ -87,8 +87,9 @@ module _ (src : List ℕ) where
     name_cut_off : (n m d e : ℕ) → BeginsEntity i false n m d → IsExternalID d request e → text_at "NDATA" src (spaces_end src e) ≡ true
         → IsSpace (spaces_end src e + 5) p → length src ≤ p → AsksAt i request p
 
-  -- XML 4.2 [70] EntityDecl. Departures: a literal may contain any `&` and `%`, which 2.3 [9] forbids, and a reference to the
-  -- entity itself, which 4.1 (No Recursion) forbids. The literal is checked only where the entity is referred to.
+  -- XML 4.2 [70] EntityDecl. Departures: a literal may contain any `&` and `%`. 2.3 [9] forbids those that begin no reference, 2.8
+  -- (PEs in Internal Subset) forbids `%p;`, and 4.1 forbids references to no Char, to an entity that is not declared, and to the
+  -- entity itself. The literal is checked only where the entity is referred to.
   pub data IsEntityDeclaration (i : ℕ) : (j : ℕ) → List Asked → List Entity → Type 0 where
     entity_declaration : (parameter : Bool) (n m d e : ℕ) (asked : List Asked) (text : Option Replacement) → BeginsEntity i parameter n m d
         → IsDefinition parameter d e asked text → byte src (spaces_end src e) ≡ code ">" → IsEntityDeclaration i (spaces_end src e + 1) asked (entry (slice src n m) text)

@@ -16,7 +16,7 @@ pub record Entity : Type 0 where
   pub text : Replacement
 
 -- XML 4.2: the first of several declarations of a name is binding. Departures: those of parameter entities count too, whose names
--- 4.1 keeps apart. The five names of 4.6 are not searched for here, so a declaration of one of them, as of `lt`, has no effect.
+-- section 4 keeps apart. The five names of 4.6 are not searched for here, so a declaration of one of them, as of `lt`, has no effect.
 abbrev pub text_of : List Entity → List ℕ → Option Replacement
 text_of es name = option_map (λ e. e.text) (find (λ e. bytes_eq e.name name) es)
 

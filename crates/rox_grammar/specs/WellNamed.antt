@@ -6,8 +6,8 @@ use Rattle.rox_grammar.specs.Written.{Name, Attribute, NamespaceDecl, Tag, Item,
 use Rattle.rox_grammar.specs.Tree.{xml_uri, xmlns_uri, same_prefix, is_xml, is_declared, scope_in, attribute_namespace}
 
 -- NS 3: the prefix `xml` may be bound only to its URI, no other prefix to that URI, and no prefix to that of `xmlns`. Departures:
--- NS 3 also forbids to declare the prefix `xmlns`, NS 5 (No Prefix Undeclaring) the empty text for a prefix, and by NS 2.2 the
--- value is a URI.
+-- NS 3 also forbids to declare the prefix `xmlns`, and requires a URI reference or the empty text as the value. NS 5 (No Prefix
+-- Undeclaring) forbids the empty text for a prefix.
 abbrev pub may_declare : NamespaceDecl → Bool
 may_declare d = not (bytes_eq d.uri xmlns_uri) && (if is_xml d.prefix then bytes_eq d.uri xml_uri else not (bytes_eq d.uri xml_uri))
 

@@ -43,20 +43,21 @@ pub fn one_tree()
     ensures parses { (text : List ℕ) (one other : Bool) (asked answered : List Asked) (s t : Forest Item) → IsUtf8 text → ParseOf text one asked s → ParseOf text other answered t → map (λ x. x.answer) asked ≡ map (λ x. x.answer) answered → (one ≡ other) × (asked ≡ answered) × (s ≡ t) }
 {}
 
-/// States that a text with a fault has no tree within the limits. So a refusal is true, unless memory ran out.
+/// States that a text with a fault, if no document type declaration is allowed, has no tree without one within the limits. So a
+/// refusal is true, unless memory ran out.
 pub fn faults_refuse()
     ensures { (text : List ℕ) (limit : ℕ) (f : Fault) (tree : Forest grammar.Node) → IsUtf8 text → FaultOf limit text f → IsTreeOf text false [] limit tree → ⊥ }
 {}
 
-/// States that a text with a fault after some answers has no tree within the limits whose answers agree with these. Answers agree
-/// if they are equal one by one, as far as both lists go. A document type declaration is considered only if it is allowed.
+/// States that a text with a fault after some answers has no tree within the limits that the options allow and whose answers agree
+/// with these. Answers agree if they are equal one by one, as far as both lists go.
 pub fn refusals_refuse()
     ensures { (text source : List ℕ) (limit : ℕ) (allow dtd : Bool) (asked given : List Asked) (f : Fault) (tree : Forest grammar.Node) → IsUtf8 text → RefusalOf limit allow text asked source f → IsTreeOf text dtd given limit tree → Permits allow dtd → SameAnswers asked given → ⊥ }
 {}
 
-/// States that a text with a parse, but with none within the limits, is refused for a limit alone. Each fault in it, after the
-/// answers of that parse, is that its nodes, attributes or namespaces are too many. A text that `exchange` returns has a parse,
-/// whatever its size.
+/// States that a text with a parse that the options allow, but with none within the limits, is refused for a limit alone. Each
+/// fault in it, after the answers of that parse, is that its nodes, attributes or namespaces are too many. A text that `exchange`
+/// returns has a parse, whatever its size.
 pub fn only_limits_refuse_a_parse()
     ensures refusals { (text source : List ℕ) (limit : ℕ) (allow dtd : Bool) (asked given : List Asked) (f : Fault) (tops : Forest Item) (e : Error) → IsUtf8 text → RefusalOf limit allow text asked source f → ParseOf text dtd given tops → Permits allow dtd → SameAnswers asked given → IsErrorOf source f e → (e ≡ error.NodesLimitReached) ⊎ ((e ≡ error.AttributesLimitReached) ⊎ (e ≡ error.NamespacesLimitReached)) }
     ensures faults { (text : List ℕ) (limit : ℕ) (f : Fault) (tree : Forest grammar.Node) (e : Error) → IsUtf8 text → FaultOf limit text f → HasTree text tree → IsErrorOf text f e → (e ≡ error.NodesLimitReached) ⊎ ((e ≡ error.AttributesLimitReached) ⊎ (e ≡ error.NamespacesLimitReached)) }

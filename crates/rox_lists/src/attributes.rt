@@ -16,7 +16,8 @@ use std::fmt;
 use std::marker::Model;
 use std::ops::Range;
 
-/// An attribute of an element (XML 1.0 section 3.1).
+/// An attribute of an element (XML 1.0 section 3.1). Two are equal if their expanded names and values are, wherever they are
+/// written.
 ///
 /// ```
 /// let document = Document::parse(alloc, "<e id='x'/>")?;
@@ -119,7 +120,7 @@ impl<'a, 'input> Attribute<'a, 'input> {
         &self.row.value
     }
 
-    /// Returns the offset of its first byte in its source, from 0.
+    /// Returns the offset of its first byte, from 0, in its source: the text, or the resolver's answer that it is written in.
     #[inline]
     pub fn position(&self) -> usize
         ensures { result ≡ (attribute_of self.now).start }

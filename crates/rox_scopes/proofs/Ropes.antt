@@ -226,6 +226,11 @@ places_on_places : (n : ℕ) (ls : List ℕ) (done : List (List ℕ)) (ss : List
 places_on_places n ls done [] h k = k
 places_on_places n ls done (s ∷ ss) h k = places_on_places n ls (done ++ made ls done s ∷ []) ss h (all_append (ArePlaces n) done (made ls done s ∷ []) k (made_places n ls done s h k, tt))
 
+-- there are no places if there is nothing
+pub none_below : (xs : List ℕ) → ArePlaces 0 xs → xs ≡ []
+none_below [] h = refl
+none_below (x ∷ xs) (less, h) = absurd (omega arith)
+
 -- places that scopes list are places
 pub all_places : (n : ℕ) (ls : List ℕ) (scopes : List Scope) (i : ℕ) → ArePlaces n ls → ArePlaces n (places_in ls scopes i)
 all_places n ls scopes i h = all_at n (places_of ls scopes) i (places_on_places n ls [] scopes h tt)

@@ -7,7 +7,8 @@ ghost use Rattle.rox_scopes.specs.NamespaceViews.{namespace_view, has_borrowed_u
 use rox_storage::storage::StringStorage;
 use std::alloc::AllocError;
 
-/// A namespace that an element lists: a prefix, or `None` for the default, and its URI.
+/// A namespace that an element lists: a prefix, or `None` for the default, and its URI. Two are equal if their prefixes and URIs
+/// are.
 ///
 /// ```
 /// let document = Document::parse(alloc, "<r xmlns='urn:d' xmlns:p='urn:p'/>")?;
@@ -31,7 +32,7 @@ impl<'input> Namespace<'input> {
         self.name
     }
 
-    /// Returns the URI that its prefix stands for; for the default namespace, the URI of names without a prefix.
+    /// Returns the URI that its prefix stands for; for the default namespace, the URI of elements without a prefix.
     #[inline]
     pub fn uri(&self) -> &str
         ensures { result.now ≡ (namespace_view self.now).uri }

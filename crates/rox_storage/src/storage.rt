@@ -8,7 +8,9 @@ use std::alloc::{AllocError, Global};
 use std::fmt;
 use std::rc::RcStr;
 
-/// A text of a document. It is a slice of the input if nothing of it had to be changed, otherwise an owned text.
+/// A text of a document. The text of a text node is a slice of the input if it is one piece of character data as it is written,
+/// without a CR, or one CDATA section without a CR. A value is one if it has no reference, CR, TAB and LF. Other texts are owned.
+/// Two are equal if their bytes are, borrowed or owned.
 ///
 /// ```
 /// let document = Document::parse(alloc, "<a>one &amp; two</a>")?;

@@ -12,12 +12,11 @@ use Rattle.rox_rows.specs.declared.row.NodeKind.TheVariants as kind
 use Rattle.rox_rows.specs.declared.row.NodeData.{NodeData}
 use Rattle.rox_rows.specs.declared.row.ElementData.{ElementData}
 use Rattle.rox_names.specs.declared.tables.Tables.{Tables}
-use Rattle.rox_scopes.proofs.Ropes.{scope_places, all_places}
+use Rattle.rox_scopes.proofs.Ropes.{scope_places, all_places, none_below}
 use Rattle.roxmltree.specs.Places.{place}
 use Rattle.roxmltree.specs.NodeParts.{namespace_of, listed_of, attributes_of}
 use Rattle.roxmltree.proofs.Rows.{row_line, in_rows}
 use Rattle.roxmltree.proofs.Bare.{row_within}
-use Rattle.rox_content.proofs.RootTags.{none_below}
 
 -- the node of a row
 row_node : (t : Tables) (f : Forest Node) (i : ℕ) (x : NodeData) → HoldsTree t f → i < size f → x ≡ get_or (node_rows t.nodes) i x → node (attribute_rows t.attributes) (names_of t) (scopes_of t) x.start x.end x.kind ≡ (place f i).item

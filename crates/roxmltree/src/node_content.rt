@@ -104,9 +104,10 @@ impl<'a, 'input> Node<'a, 'input> {
         self.row.is_text()
     }
 
-    /// Returns its range of bytes in its source, with offsets from 0. An element's range is from its `<` to the end of its end
-    /// tag, the root node's is the whole text. A text node may be merged from several runs of character data and CDATA sections:
-    /// it has the range of the first.
+    /// Returns its range of bytes, with offsets from 0, in its source: the text, or the resolver's answer that it is written in.
+    /// The range of an element, a comment or an instruction is from its first `<` to its last `>`, and that of the root node is
+    /// the whole text. A text node may be merged from several pieces: it has the range of the first one, character data or a
+    /// CDATA section. A reference to an empty text is no piece.
     ///
     /// ```
     /// let document = Document::parse(alloc, "<r><a/>text</r>")?;

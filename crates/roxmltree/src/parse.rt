@@ -82,7 +82,7 @@ impl<'input> Document<'input> {
     /// asks for. No parse within the limits has answers that begin with these (`no_parse`).
     ///
     /// By the clause `fault`, such an error reports a fault by the rules of the grammar, after the requests made until then. Its
-    /// kind, position and names refer to the source it is in: this text, a replacement text of an entity, or an answer. By the
+    /// kind, position and names refer to this text, also if the fault is in the literal of an entity, or to an answer. By the
     /// clause `first`, each error except `Error::OutOfMemory` is the one that reading from left to right meets first.
     ///
     /// ```

@@ -29,6 +29,8 @@ const NAMESPACES: &str = "<a xmlns:p='1'><b/></a>";
 
 const XML: &str = "<a xmlns:xml='http://www.w3.org/XML/1998/namespace'><b/></a>";
 
+const UNDECLARED: &str = "<a xmlns=''><b/></a>";
+
 const NESTED: &str = "<a><b xmlns:p='1'><c/></b><d/></a>";
 
 const KINDS: &str = "<r>t<!--c--><?p?></r>";
@@ -42,6 +44,8 @@ fn which_are_self_contained(rt: HostRuntime) {
         (NAMESPACES, 2, false),
         (XML, 1, true),
         (XML, 2, true),
+        (UNDECLARED, 1, true),
+        (UNDECLARED, 2, false),
         (NESTED, 2, true),
         (NESTED, 3, false),
         (NESTED, 4, true),
