@@ -17,4 +17,5 @@ mod Lying
 mod Counted
 mod Placed
 mod Literals
+mod Messages
 pub mod ElementCuts

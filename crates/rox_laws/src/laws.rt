@@ -71,6 +71,7 @@ pub fn order_agrees_with_equality(a: Node<'_, '_>, b: Node<'_, '_>) -> (Ordering
 /// Returns the order of two nodes: by the keys of their documents, and for equal keys by document order.
 pub fn order_is_by_document(a: Node<'_, '_>, b: Node<'_, '_>) -> Ordering
     ensures grouped { (document_of a.entry).key < (document_of b.entry).key → result ≡ Ordering.Less }
+    ensures grouped_behind { (document_of b.entry).key < (document_of a.entry).key → result ≡ Ordering.Greater }
     ensures inside { (document_of a.entry).key ≡ (document_of b.entry).key → result ≡ nat_cmp (id_of a.entry) (id_of b.entry) }
 {
     a.cmp(&b)

@@ -19,6 +19,7 @@ ghost use Rattle.rox_theory.specs.Pieces.{pieces_of, OnlySectionsAreEmpty};
 ghost use Rattle.rox_prolog.specs.Requests.{Allows, AreAllowed};
 ghost use Rattle.roxmltree.specs.EachNode.{EachNode};
 ghost use Rattle.rox_error.specs.FaultErrors.{IsErrorOf};
+ghost use Rattle.rox_error.specs.Messages.{message, message_with_position};
 ghost use Rattle.rox_error.specs.declared.error.Error.{Error};
 ghost use Rattle.rox_error.specs.declared.error.Error.TheVariants as error;
 ghost use Rattle.rox_laws.specs.TreeLaws.{TextsApart, NamesDistinct, AllChars};
@@ -69,6 +70,13 @@ pub fn only_limits_refuse_a_parse()
 pub fn literals_are_told_in_the_text()
     ensures sources { (text source : List ℕ) (limit : ℕ) (allow : Bool) (asked : List Asked) (f : Fault) → RefusalOf limit allow text asked source f → (source ≡ text) ⊎ (IsLiteralIn text source ⊎ IsAnswerIn asked source) }
     ensures literal { (text source : List ℕ) (limit : ℕ) (allow : Bool) (asked : List Asked) (f : Fault) (e : Error) → IsUtf8 text → RefusalOf limit allow text asked source f → IsLiteralIn text source → NamesText source f → IsErrorOf source f e → IsErrorOf text f e }
+{}
+
+/// States that each error that parsing returns for a fault has a message: the bytes that `Display` writes of the error, and of its
+/// `Message`. Only a `NonXmlChar` that a caller makes may have none.
+pub fn errors_have_messages()
+    ensures with_position { (text source : List ℕ) (limit : ℕ) (allow : Bool) (asked : List Asked) (f : Fault) (e : Error) → RefusalOf limit allow text asked source f → IsErrorOf source f e → message_with_position e ≢ None }
+    ensures without_position { (text source : List ℕ) (limit : ℕ) (allow : Bool) (asked : List Asked) (f : Fault) (e : Error) → RefusalOf limit allow text asked source f → IsErrorOf source f e → message e ≢ None }
 {}
 
 /// States that the tree of every document is that of its text, with the answers for its external entities. Without a document
