@@ -64,11 +64,9 @@ fn hash_of<T: Hash + Drop>(value: T) -> u64 {
 /// Wants a node to stand before another, or to be equal to it.
 fn compare(one: &Node<'_, '_>, rt: &impl Abort, other: &Node<'_, '_>, wanted: Ordering) {
     same(rt, "order", one.cmp(other), wanted);
-    same(rt, "equal", one == other, wanted == Ordering::Equal);
-    same(rt, "less", one < other, wanted == Ordering::Less);
-    if wanted == Ordering::Equal {
-        same(rt, "hash", hash_of(*one), hash_of(*other));
-    }
+    let is_so = [one == other, one < other];
+    let wanted = [wanted == Ordering::Equal, wanted == Ordering::Less];
+    same(rt, "equal, less", is_so, wanted);
 }
 
 /// Nodes of documents with equal keys are compared by their ids alone.
@@ -87,15 +85,30 @@ fn nodes_by_key_and_id(rt: HostRuntime) {
     }
 }
 
-/// Their clauses say what copies are, but not that there may be one.
 #[test]
-fn copies_that_take_memory(rt: HostRuntime) {
+fn equal_nodes_have_equal_hashes(rt: HostRuntime) {
+    let (first, copy) = (keyed(&rt, 1), keyed(&rt, 1));
+    let (one, other) = (first.root_element(), copy.root_element());
+    same(&rt, "hash", hash_of(one), hash_of(other));
+}
+
+/// The clauses of `clone` say what copies are, but not that there may be one.
+#[test]
+fn copies_of_texts(rt: HostRuntime) {
     let text = StringStorage::new_owned(rt.alloc(), "text").expect(&rt, "memory");
     let copy = text.clone().expect(&rt, "memory");
     same(&rt, "text", copy.as_str(), "text");
+}
+
+#[test]
+fn copies_of_errors(rt: HostRuntime) {
     let error = Document::parse(rt.alloc(), "<e p:a=''/>").expect_err(&rt, "read");
     let copy = error.clone().expect(&rt, "memory");
     same(&rt, "error", copy == error, true);
+}
+
+#[test]
+fn copies_of_namespaces(rt: HostRuntime) {
     let document = document_of(&rt, "<e xmlns='&#117;'/>");
     for namespace in document.root_element().namespaces() {
         let copy = namespace.clone().expect(&rt, "memory");
