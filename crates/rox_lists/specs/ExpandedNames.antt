@@ -2,7 +2,7 @@
 use Rattle.std.specs.Prelude.{ℕ, Bool, ◌&&◌, List, [], ◌∷◌, Option, Some, None, IsTrue, IsSomeAnd, bytes_eq, slice_get, if◌then◌else◌, codes}
 use Rattle.std.specs.Option.{option_map, option_eq}
 use Rattle.rox_grammar.specs.Written.{NamespaceDecl}
-use Rattle.rox_grammar.specs.Tree.{Attribute, xml_uri}
+use Rattle.rox_grammar.specs.Tree.{Attribute, xml_uri, same_prefix}
 use Rattle.rox_lists.specs.declared.names.ExpandedName.{ExpandedName}
 
 -- The namespace, if there is one, and the local name.
@@ -26,6 +26,11 @@ IsNamedAt name attributes place = IsSomeAnd (slice_get attributes place) (λ a. 
 abbrev pub named_locally : List ℕ → List Attribute → Option Attribute
 named_locally local [] = None
 named_locally local (a ∷ others) = if bytes_eq a.local local then Some a else named_locally local others
+
+-- The first namespace with this prefix, or the default for `None`.
+abbrev pub first_with_prefix : Option (List ℕ) → List NamespaceDecl → Option NamespaceDecl
+first_with_prefix prefix [] = None
+first_with_prefix prefix (d ∷ others) = if same_prefix d.prefix prefix then Some d else first_with_prefix prefix others
 
 -- The prefix of the first namespace with this URI. It is `None` if that is the default, or if there is none.
 abbrev pub first_prefix : List ℕ → List NamespaceDecl → Option (List ℕ)

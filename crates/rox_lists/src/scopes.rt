@@ -2,11 +2,11 @@
 //! Access by index would start at the top for each place.
 
 ghost use Rattle.std.specs.Prelude.{◌≡◌, ◌++◌, None, length, map, reverse, option_map};
-ghost use Rattle.rox_grammar.specs.Tree.{same_prefix, uri_of};
+ghost use Rattle.rox_grammar.specs.Tree.{same_prefix};
 ghost use Rattle.rox_scopes.specs.NamespaceViews.{namespace_view};
 ghost use Rattle.rox_scopes.specs.Scopes.{prefix_view, entries, places_in, ArePlaces};
 ghost use Rattle.rox_scopes.specs.Ropes.{IsScopeOf};
-ghost use Rattle.rox_lists.specs.ExpandedNames.{first_prefix};
+ghost use Rattle.rox_lists.specs.ExpandedNames.{first_prefix, first_with_prefix};
 
 use crate::names::{equal_names, equal_uris};
 use crate::namespaces::all_of_scope;
@@ -34,9 +34,9 @@ fn first_of<'a, 'input>(
     prefix: Option<&str>,
 ) -> Option<&'a Namespace<'input>>
     requires { ArePlaces (length namespaces.now) places.now }
-    ensures { option_map (λ n. (namespace_view n.now).uri) result
-        ≡ uri_of (entries (map namespace_view namespaces.now) places.now)
-        (prefix_view prefix.entry) }
+    ensures { option_map (λ n. namespace_view n.now) result
+        ≡ first_with_prefix (prefix_view prefix.entry)
+        (entries (map namespace_view namespaces.now) places.now) }
 {
     for place in places {
         let namespace = &namespaces[*place as usize];
@@ -56,9 +56,9 @@ fn last_of<'a, 'input>(
     prefix: Option<&str>,
 ) -> Option<&'a Namespace<'input>>
     requires { ArePlaces (length namespaces.now) places.now }
-    ensures { option_map (λ n. (namespace_view n.now).uri) result
-        ≡ uri_of (entries (map namespace_view namespaces.now) (reverse places.now))
-        (prefix_view prefix.entry) }
+    ensures { option_map (λ n. namespace_view n.now) result
+        ≡ first_with_prefix (prefix_view prefix.entry)
+        (entries (map namespace_view namespaces.now) (reverse places.now)) }
 {
     let end = places.len();
     for turn in 0..end {
@@ -82,9 +82,9 @@ pub fn first_in_scope<'a, 'input>(
     prefix: Option<&str>,
 ) -> Option<&'a Namespace<'input>>
     requires { IsScopeOf (length namespaces.now) listed.now scopes.now scope }
-    ensures { option_map (λ n. (namespace_view n.now).uri) result
-        ≡ uri_of (entries (map namespace_view namespaces.now)
-        (places_in listed.now scopes.now scope)) (prefix_view prefix.entry) }
+    ensures { option_map (λ n. namespace_view n.now) result
+        ≡ first_with_prefix (prefix_view prefix.entry) (entries (map namespace_view namespaces.now)
+        (places_in listed.now scopes.now scope)) }
 {
     match scopes[scope as usize] {
         Scope::Few(stretch) => {
@@ -112,10 +112,9 @@ fn first_in_parts<'a, 'input>(
 ) -> Option<&'a Namespace<'input>>
     requires first { IsScopeOf (length namespaces.now) listed.now scopes.now parts.first }
     requires rest { IsScopeOf (length namespaces.now) listed.now scopes.now parts.rest }
-    ensures { option_map (λ n. (namespace_view n.now).uri) result
-        ≡ uri_of (entries (map namespace_view namespaces.now)
-        (places_in listed.now scopes.now parts.first ++ places_in listed.now scopes.now parts.rest))
-        (prefix_view prefix.entry) }
+    ensures { option_map (λ n. namespace_view n.now) result
+        ≡ first_with_prefix (prefix_view prefix.entry) (entries (map namespace_view namespaces.now)
+        (places_in listed.now scopes.now parts.first ++ places_in listed.now scopes.now parts.rest)) }
 {
     match first_in_scope(scopes, listed, namespaces, parts.first, prefix) {
         Some(namespace) => Some(namespace),

@@ -2,11 +2,10 @@
 
 ghost use Rattle.std.specs.Prelude.{◌≡◌, ◌^◌, ◌<◌, ◌≤◌, List, length, Some, None, IfSome, IfNone, option_map};
 ghost use Rattle.rox_grammar.specs.Forest.{Forest, size};
-ghost use Rattle.rox_grammar.specs.Tree.{uri_of};
 ghost use Rattle.rox_scopes.specs.NamespaceViews.{namespace_view};
 ghost use Rattle.roxmltree.specs.Places.{place, children};
 ghost use Rattle.roxmltree.specs.NodeParts.{start_of, end_of, content_of, namespace_of, listed_of, attributes_of};
-ghost use Rattle.rox_lists.specs.ExpandedNames.{first_prefix};
+ghost use Rattle.rox_lists.specs.ExpandedNames.{first_prefix, first_with_prefix};
 
 use crate::iterators::Descendants;
 use crate::nodes::{Node, NodeId};
@@ -332,9 +331,9 @@ impl<'a, 'input> Node<'a, 'input> {
     /// is no such namespace or the node is not an element.
     #[inline(always)]
     pub(crate) fn listed_for(&self, prefix: Option<&str>) -> Option<&'a Namespace<'input>>
-        ensures { option_map (λ n. (namespace_view n.now).uri) result
-            ≡ uri_of (listed_of (item_of self.now)) (option_map
-            (λ s. s.now) prefix.entry) }
+        ensures { option_map (λ n. namespace_view n.now) result
+            ≡ first_with_prefix (option_map (λ s. s.now) prefix.entry)
+            (listed_of (item_of self.now)) }
     {
         let tables = self.tables;
         if !self.is_element() {
