@@ -79,7 +79,7 @@ impl<'input> Document<'input> {
     ///
     /// `Error::OutOfMemory` says nothing about the text. `Error::EntityResolver` has words with which the resolver may refuse a
     /// request, and the position of that request (`resolver`). For any other error there are allowed answers to what the text
-    /// asks for. No parse within the limits has answers that begin with these (`no_parse`).
+    /// asks for. No parse that the options allow, within the limits, has answers that begin with these (`no_parse`).
     ///
     /// By the clause `fault`, such an error reports a fault by the rules of the grammar, after the requests made until then. Its
     /// kind, position and names refer to this text, also if the fault is in the literal of an entity, or to an answer. By the
