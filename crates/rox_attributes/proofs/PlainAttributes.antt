@@ -1,7 +1,7 @@
 -- Attributes that are read at one look, put into their table.
 use Rattle.std.proofs.Common.{◌≡◌, ℕ, ◌+◌, ◌<◌, false, List, [], ◌∷◌, length, map, refl, arith, bytes_eq}
 use Rattle.rox_scopes.specs.declared.namespace.Namespace.{Namespace}
-use Rattle.rox_reading.specs.AtIndex.{scope_at}
+use Rattle.rox_grammar.specs.AtIndex.{scope_at}
 use Rattle.rox_scopes.specs.Scopes.{ArePlaces, PrefixesOnce, entries, places_in}
 use Rattle.rox_names.specs.TagScopes.{lists_in}
 use Rattle.rox_rows.specs.CompactPlaces.{compact_places}

@@ -11,7 +11,8 @@ use Rattle.rox_grammar.specs.Constructs.{AreChars}
 use Rattle.rox_bytes.specs.ByteSets.{AllPass, EndsSet, is_stretch_byte, is_value_byte}
 use Rattle.rox_scan.specs.Lookahead.{IsLookahead, ends_value, is_changed_value_byte, none_changes}
 use Rattle.rox_scan.proofs.LongerLemmas.{near_looked, char_looked, looked_on, wide_open, changed_value_is_plain, changed_value_open, changed_value_leads}
-use Rattle.rox_bytes.proofs.NearLemmas.{value_is_plain, value_cut, value_apart, none_among, stretch_plain}
+use Rattle.rox_scan.proofs.NearReads.{stretch_plain}
+use Rattle.rox_bytes.proofs.NearLemmas.{value_is_plain, value_cut, value_apart, none_among}
 use Rattle.rox_verbatim.specs.PlainValues.{EndsVerbatim}
 
 -- where the bytes end a character begins

@@ -3,3 +3,5 @@
 
 pub mod content;
 pub mod reader;
+
+pub use rox_prolog::resolver::{EntityResolver, NoResolver, ResolveWith};

@@ -7,7 +7,7 @@ use Rattle.rox_grammar.specs.Written.{Item, NamespaceDecl}
 use Rattle.rox_grammar.specs.State.{Open}
 use Rattle.rox_grammar.specs.Tree.{element_namespace}
 use Rattle.rox_rows.specs.Rows.{row_view, NamespaceWithin, KindWithin, numbered_place, AttributeRow, attribute_rows, node_rows}
-use Rattle.rox_reading.specs.AtIndex.{namespace_at, scope_at, OptionWithin}
+use Rattle.rox_grammar.specs.AtIndex.{namespace_at, scope_at, OptionWithin}
 use Rattle.rox_scopes.specs.NamespaceViews.{namespace_view}
 use Rattle.rox_scopes.specs.Scopes.{PrefixesOnce}
 use Rattle.rox_names.specs.TagScopes.{lists_in}
@@ -17,8 +17,8 @@ use Rattle.rox_rows.specs.declared.row.NodeData.{NodeData}
 use Rattle.rox_names.specs.declared.tables.ElementTables.{ElementTables}
 use Rattle.rox_names.specs.declared.open_element.OpenElement.{OpenElement}
 use Rattle.rox_builder.specs.declared.builder.Builder.{Builder}
-use Rattle.rox_reading.proofs.Lists.{all_weaker, map_same}
-use Rattle.rox_reading.proofs.AtIndex.{scope_at-append, namespace_at-append, option_more}
+use Rattle.rox_grammar.proofs.Lists.{all_weaker, map_same}
+use Rattle.rox_grammar.proofs.AtIndex.{scope_at-append, namespace_at-append, option_more}
 use Rattle.rox_rows.proofs.Stable.{lines-append, kind_more}
 use Rattle.rox_scopes.proofs.Ropes.{length-lists}
 

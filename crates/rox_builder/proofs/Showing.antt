@@ -30,7 +30,7 @@ use Rattle.rox_builder.specs.declared.pending.Pending.TheVariants as pending
 use Rattle.rox_names.specs.declared.open_element.OpenElement.{OpenElement}
 use Rattle.rox_builder.specs.declared.builder.Builder.{Builder}
 use Rattle.rox_builder.proofs.Rows.{length-so_far, nodes_are, so_far-join, so_far-open, so_far-closed, closed_line}
-use Rattle.rox_reading.proofs.Lists.{all_append}
+use Rattle.rox_grammar.proofs.Lists.{all_append}
 
 -- ---- the open elements
 

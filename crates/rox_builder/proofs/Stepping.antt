@@ -5,7 +5,7 @@ use Rattle.rox_grammar.specs.FixedTexts.{word_text}
 use Rattle.rox_grammar.specs.declared.fault.Word.TheVariants as word
 use Rattle.std.specs.List.{starts_with, AllByRecursion}
 use Rattle.rox_rows.specs.Rows.{attribute_rows, node_rows}
-use Rattle.rox_reading.specs.AtIndex.{scope_at}
+use Rattle.rox_grammar.specs.AtIndex.{scope_at}
 use Rattle.rox_rows.specs.declared.row.NodeData.{NodeData}
 use Rattle.rox_names.specs.TagScopes.{lists_in}
 use Rattle.std.specs.Prelude.{nat_lt, ◌^◌, ◌-◌}

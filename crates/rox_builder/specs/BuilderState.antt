@@ -15,7 +15,7 @@ use Rattle.rox_grammar.specs.Failures.{Fails, name_view}
 use Rattle.rox_scan.specs.declared.cursor.Cursor.{Cursor}
 use Rattle.rox_grammar.specs.declared.failure.Failure.{Failure}
 use Rattle.rox_rows.specs.Rows.{node_rows, RowView, row_view, node, NamespaceWithin, KindWithin, AttributeRow, attribute_rows}
-use Rattle.rox_reading.specs.AtIndex.{scope_at}
+use Rattle.rox_grammar.specs.AtIndex.{scope_at}
 use Rattle.rox_scopes.specs.ScopeRows.{AreScopes}
 use Rattle.rox_scopes.specs.NamespaceViews.{namespace_view}
 use Rattle.rox_reading.specs.Values.{Next, part_text}

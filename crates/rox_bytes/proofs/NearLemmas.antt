@@ -11,18 +11,10 @@ use Rattle.rox_grammar.specs.Content.{is_verbatim_value}
 use Rattle.rox_grammar.specs.Runs.{run_end, begins}
 use Rattle.rox_grammar.specs.Search.{byte_from}
 use Rattle.rox_grammar.proofs.AtPlace.{run_at_end, space_ascii}
-use Rattle.rox_reading.specs.Lexical.{byte_at, chars_up_to}
-use Rattle.rox_reading.specs.Markup.{raw_value_at}
-use Rattle.rox_reading.specs.Values.{is_special}
 use Rattle.rox_bytes.specs.ByteSets.{is_char_byte, AllPass, is_value_byte, is_any_value_byte, is_quoted_byte, is_text_byte, is_comment_byte, is_ascii_comment_byte, is_part_byte, is_run_byte, is_stretch_byte}
 use Rattle.rox_bytes.proofs.RunLemmas.{begins_ascii, run_on_ascii, run_stops_ascii, space_on, space_stops, stands_within}
 use Rattle.rox_bytes.proofs.PlainLemmas.{plain_run}
 use Rattle.rox_bytes.proofs.EasedLemmas.{cut_before}
-
--- a byte but 0 that is there is read
-pub byte_is : (src : List ℕ) (i b : ℕ) → slice_index src i ≡ b → 0 < b → byte_at b src i ≡ Ok (tt, i + 1)
-unfolding byte_at
-byte_is src i b is some = rw (lt-leb (length src) i (stands_within src i b is some), eq-eqb (slice_index src i) b is) refl
 
 pub value_is_plain : (b : ℕ) → is_value_byte b ≡ true → is_char_byte b ≡ true
 unfolding is_value_byte
@@ -212,14 +204,6 @@ value_plain : (b : ℕ) → is_value_byte b ≡ true → (b == 38 || (b == 9 || 
 unfolding is_value_byte
 value_plain b h = grind (arith, nat_tests)
 
-pub stretch_plain : (b : ℕ) → is_stretch_byte b ≡ true → is_special b ≡ false
-unfolding is_stretch_byte
-stretch_plain b h = grind (arith, nat_tests)
-
-pub stretch_special : (b : ℕ) → is_stretch_byte b ≡ false → is_special b ≡ true
-unfolding is_stretch_byte
-stretch_special b h = grind (arith, nat_tests)
-
 run_plain : (b : ℕ) → is_run_byte b ≡ true → (b == 38 || b == 13) ≡ false
 unfolding is_run_byte
 run_plain b h = grind (arith, nat_tests)
@@ -233,30 +217,14 @@ pub part_ends : (src : List ℕ) (i e : ℕ) → i ≤ e → e ≤ length src �
 part_ends src i e le within all stops = near_found is_run_byte (λ c. c == 38 || c == 13) src i e le within all run_plain (λ more. run_changes _ (stops more))
 
 -- a value ends at the quote that stands behind its plain bytes
-near_value : (src : List ℕ) (i e quote : ℕ) → (quote == 39 || quote == 34) ≡ true → i ≤ e → e < length src → get_or src e 0 ≡ quote → AllPass is_value_byte src i e → byte_from (λ c. c == quote || c == 60) src i ≡ e
+pub near_value : (src : List ℕ) (i e quote : ℕ) → (quote == 39 || quote == 34) ≡ true → i ≤ e → e < length src → get_or src e 0 ≡ quote → AllPass is_value_byte src i e → byte_from (λ c. c == quote || c == 60) src i ≡ e
 near_value src i e quote q le within here all =
     near_found is_value_byte (λ c. c == quote || c == 60) src i e le (omega arith) all (λ b h. value_apart quote b q h) (λ more. rw here (either_first quote))
 
 pub not_zero : (quote : ℕ) → (quote == 39 || quote == 34) ≡ true → 0 < quote
 not_zero quote q = grind (arith, nat_tests)
 
--- what it is read as
-pub short_chars : (src : List ℕ) (i e quote : ℕ) → IsUtf8 src → IsCharBoundary src i → (quote == 39 || quote == 34) ≡ true → i ≤ e → IsCharBoundary src e → AllPass is_value_byte src i e → (get_or src e 0 == quote) ≡ true → chars_up_to (byte_from (λ c. c == quote || c == 60) src i) src i ≡ Ok (slice_range src i e, e)
-unfolding chars_up_to
-short_chars src i e quote utf8 start q le cut all here =
-    let at : get_or src e 0 ≡ quote = eqb-true _ _ here in
-    let within : e < length src = elim (cases_lt e (length src)) [ inl more ↦ more | inr past ↦ absurd (omega (arith, get_or_past src e 0 past, not_zero quote q)) ] in
-    rw (near_value src i e quote q le within at all, near_chars is_value_byte src i e utf8 start le cut all value_is_plain, le-ltb e e (omega arith)) refl
-
--- the same of an attribute
-pub short_value : (src : List ℕ) (i e quote : ℕ) → IsUtf8 src → IsCharBoundary src i → (quote == 39 || quote == 34) ≡ true → i ≤ e → IsCharBoundary src e → AllPass is_value_byte src i e → (get_or src e 0 == quote) ≡ true → raw_value_at quote src i ≡ Ok (slice_range src i e, e)
-unfolding raw_value_at chars_up_to
-short_value src i e quote utf8 start q le cut all here =
-    let at : get_or src e 0 ≡ quote = eqb-true _ _ here in
-    let within : e < length src = elim (cases_lt e (length src)) [ inl more ↦ more | inr past ↦ absurd (omega (arith, get_or_past src e 0 past, not_zero quote q)) ] in
-    rw (near_value src i e quote q le within at all, lt-leb (length src) e within, near_chars is_value_byte src i e utf8 start le cut all value_is_plain, le-ltb e e (omega arith)) refl
-
--- and has nothing to change
+-- a value of plain bytes has nothing to change
 pub near_plain : (src : List ℕ) (i e : ℕ) → i ≤ e → e ≤ length src → AllPass is_value_byte src i e → is_verbatim_value (slice_range src i e) ≡ true
 near_plain src i e le within all =
     ap not (none_among is_value_byte (λ b. b == 38 || (b == 9 || (b == 10 || b == 13))) src i e (e - i) (omega arith) within all value_plain)

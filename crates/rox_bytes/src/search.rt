@@ -1,10 +1,9 @@
 //! The first offset of a byte or of a fixed text.
 ghost use Rattle.std.specs.Prelude.{◌≡◌, ◌+◌, ◌<◌, ◌≤◌, ◌||◌, ◌==◌, not, length, IsCharBoundary};
 ghost use Rattle.rox_grammar.specs.Search as spec;
-ghost use Rattle.rox_reading.specs.Lexical.{has_mark};
 ghost use Rattle.rox_bytes.specs.ByteSets.{EndsSet};
 ghost use Rattle.rox_bytes.specs.ScanResults.{Finds, FindsByte};
-ghost use Rattle.rox_grammar.specs.Search.{byte_from};
+ghost use Rattle.rox_grammar.specs.Search.{byte_from, has_mark};
 
 use memchr::{memchr, memchr2};
 

@@ -20,7 +20,7 @@ use Rattle.rox_values.proofs.PartLemmas.{refuses_by}
 use Rattle.rox_scan.specs.declared.cursor.Cursor.{Cursor}
 use Rattle.rox_grammar.specs.declared.failure.Failure.{Failure}
 use Rattle.rox_rows.specs.Rows.{node, numbered_place, attribute, NamespaceWithin, AttributeRow, attribute_rows}
-use Rattle.rox_reading.specs.AtIndex.{scope_at}
+use Rattle.rox_grammar.specs.AtIndex.{scope_at}
 use Rattle.rox_scopes.specs.NamespaceViews.{namespace_view}
 use Rattle.rox_scopes.specs.Scopes.{PrefixesOnce}
 use Rattle.rox_names.specs.TagScopes.{lists_in}
@@ -32,10 +32,10 @@ use Rattle.rox_names.specs.declared.tables.ElementTables.{ElementTables}
 use Rattle.rox_names.specs.declared.open_element.OpenElement.{OpenElement}
 use Rattle.rox_builder.specs.declared.builder.Builder.{Builder}
 use Rattle.rox_names.specs.declared.start_tag.StartTag.{StartTag}
-use Rattle.rox_reading.proofs.Lists.{all_append, all_weaker}
+use Rattle.rox_grammar.proofs.Lists.{all_append, all_weaker}
 use Rattle.rox_rows.proofs.Stable.{namespace_more}
 use Rattle.rox_scopes.proofs.Listing.{with_new-front, with_new-append}
-use Rattle.rox_reading.proofs.Stretches.{slice-rest}
+use Rattle.rox_grammar.proofs.Stretches.{slice-rest}
 use Rattle.rox_builder.proofs.Growing.{grown_counts, grown_elements, grown_empty}
 use Rattle.rox_builder.proofs.Stepping.{adds_stepped}
 use Rattle.rox_theory.proofs.Standing.{pairs-item, attributes-item}

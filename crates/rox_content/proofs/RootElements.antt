@@ -6,7 +6,7 @@ use Rattle.rox_grammar.specs.State.{Open, inside, root, scope_of}
 use Rattle.rox_reading.specs.State.{State}
 use Rattle.rox_scan.specs.declared.cursor.Cursor.{Cursor}
 use Rattle.rox_rows.specs.Rows.{AttributeRow, NamespaceWithin, attribute_rows}
-use Rattle.rox_reading.specs.AtIndex.{scope_at}
+use Rattle.rox_grammar.specs.AtIndex.{scope_at}
 use Rattle.rox_names.specs.declared.tables.ElementTables.{ElementTables}
 use Rattle.rox_builder.specs.BuilderState.{Grown, IsConsistent, IsInState, last_row, open_lines, opened_in}
 use Rattle.rox_content.specs.RootTag.{HoldAlike}

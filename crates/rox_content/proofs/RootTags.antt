@@ -11,7 +11,7 @@ use Rattle.rox_grammar.specs.WellNamed.{may_name}
 use Rattle.rox_reading.specs.Lexical.{qname_at}
 use Rattle.rox_reading.specs.Tags.{Values, attributes_at, names_tested, tag_tested}
 use Rattle.rox_rows.specs.Rows.{attribute_rows, numbered_place}
-use Rattle.rox_reading.specs.AtIndex.{namespace_at, scope_at}
+use Rattle.rox_grammar.specs.AtIndex.{namespace_at, scope_at}
 use Rattle.rox_scopes.specs.ScopeRows.{lists_of}
 use Rattle.rox_scopes.specs.NamespaceViews.{namespace_view}
 use Rattle.rox_scopes.specs.Scopes.{PrefixesOnce, entries}

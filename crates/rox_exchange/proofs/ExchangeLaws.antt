@@ -9,7 +9,7 @@ use Rattle.rox_grammar.specs.NodeRanges.{is_element_node}
 use Rattle.rox_grammar.specs.Names.{slice}
 use Rattle.rox_grammar.specs.Exchange.{Move, moved, moved_node, shifted, subtree, exchanged, lists_none, none_of, self_contained, row_start, row_end, start_at, end_at, replaced, HasTree, change, with_other, text_with}
 use Rattle.rox_exchange.specs.ExchangeLaws.{AreSeparate, id_after, StaysContained, GoesBack, Commutes}
-use Rattle.rox_reading.proofs.Stretches.{range_length}
+use Rattle.rox_grammar.proofs.Stretches.{range_length}
 use Rattle.rox_theory.proofs.Without.{parse_without}
 use Rattle.rox_exchange.proofs.Named.{none_listed}
 use Rattle.rox_exchange.proofs.Ordered.{Ordered}

@@ -13,7 +13,7 @@ use Rattle.rox_grammar.specs.FixedTexts.{word_text, at, double_dash}
 use Rattle.rox_grammar.specs.ExpectedTexts.{expected_text}
 use Rattle.rox_grammar.specs.Chars.{is_space, is_char, is_part_char, is_name_start, is_name_char}
 use Rattle.rox_grammar.specs.Runs.{run_end, begins}
-use Rattle.rox_grammar.specs.Search.{mark_from, byte_from}
+use Rattle.rox_grammar.specs.Search.{mark_from, byte_from, has_mark}
 use Rattle.rox_grammar.specs.Written.{Name}
 use Rattle.rox_grammar.specs.NameParts.{local_span}
 use Rattle.rox_grammar.specs.Names.{byte, slice, spaces_end, IsName, IsQName, unprefixed, prefixed, colon_first}
@@ -23,7 +23,7 @@ use Rattle.rox_grammar.specs.Entities.{Replacement, Entity, text_of}
 use Rattle.rox_grammar.specs.Due.{a_byte, a_text, a_qname, a_name, chars_to, IsMissing, Misses, no_name, DueInText, DueInPI, DueInEnd}
 use Rattle.rox_grammar.specs.Due as due
 use Rattle.rox_grammar.specs.Faults.{SpanIs, spelled, InMisc, comment_lacks, double_dashes, a_declaration, instruction_lacks, InReferences, malformed, undeclared}
-use Rattle.rox_reading.specs.Lexical.{has_mark, byte_at, text_to, qname_at, name_at}
+use Rattle.rox_reading.specs.Lexical.{byte_at, text_to, qname_at, name_at}
 use Rattle.rox_reading.specs.Markup.{comment_at, instruction_at, cdata_at, end_tag_at}
 use Rattle.rox_reading.specs.Values.{Reference, number_at, name_reference_at, reference_at, entity_bit, reference_bit, expansion_at}
 use Rattle.rox_grammar.proofs.AtPlace.{mark_from_cut}
@@ -38,7 +38,7 @@ use Rattle.rox_theory.proofs.ReferenceLemmas.{IsRead, is_character, is_entity, r
 use Rattle.rox_theory.proofs.CharLemmas.{part_some}
 use Rattle.rox_theory.proofs.StretchLemmas.{slice_cons}
 use Rattle.rox_reading.specs.Machine.{name_span}
-use Rattle.rox_reading.proofs.Stretches.{range_length}
+use Rattle.rox_grammar.proofs.Stretches.{range_length}
 use Rattle.rox_theory.proofs.FailedReadings.{bind_err, no_fault, chars_fails, byte_fails, string_fails, qname_fails}
 
 -- The first place from `i` on where the fixed text is, or the end.

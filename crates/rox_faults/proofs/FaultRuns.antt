@@ -5,7 +5,7 @@ use Rattle.rox_grammar.specs.declared.fault.Fault.{Fault}
 use Rattle.rox_grammar.specs.declared.fault.Fault.TheVariants as fault
 use Rattle.rox_grammar.specs.declared.fault.Word.TheVariants as word
 use Rattle.rox_grammar.specs.FixedTexts.{word_text}
-use Rattle.rox_grammar.specs.Search.{byte_from}
+use Rattle.rox_grammar.specs.Search.{byte_from, has_mark}
 use Rattle.rox_grammar.specs.Forest.{Forest, Nil, join}
 use Rattle.rox_grammar.specs.Written.{Item, Text, leaf}
 use Rattle.rox_grammar.specs.Names.{byte, slice}
@@ -18,7 +18,7 @@ use Rattle.rox_grammar.specs.WellNamed.{AreWellNamed}
 use Rattle.rox_grammar.specs.State.{Open, scope_of, depth_of, nodes_so_far, FitsLimits}
 use Rattle.rox_grammar.specs.ContentPoints.{is_content, is_main, a_run, RefersTo, RunTo, MayOpen, IsSpent, enters}
 use Rattle.rox_grammar.specs.Faults.{InReferences, InRun, no_char, end_mark, in_reference, too_many, in_run, too_many_nodes, too_many_pieces}
-use Rattle.rox_reading.specs.Lexical.{has_mark, chars_up_to}
+use Rattle.rox_reading.specs.Lexical.{chars_up_to}
 use Rattle.rox_reading.specs.Refusals.{Refusal}
 use Rattle.rox_reading.specs.State.{State}
 use Rattle.rox_reading.specs.Values.{Bit, data_bit_at, Next, after_bit, data_part, part_text, raw_character_data_at}

@@ -52,7 +52,7 @@ use Rattle.rox_faults.proofs.FaultRows.{local_holds, qname_inside}
 use Rattle.rox_faults.proofs.FaultPoints.{Refuses}
 use Rattle.rox_faults.proofs.FaultValues.{InPart, value_fails}
 use Rattle.rox_faults.proofs.StateCounts.{attributes_are, pairs_there, pairs_counted, more_pairs_there}
-use Rattle.rox_reading.proofs.Stretches.{range_length}
+use Rattle.rox_grammar.proofs.Stretches.{range_length}
 
 -- A quote that is required.
 pub quote_fails : (src : List ℕ) (i : ℕ) (f : Fault) → quote_at src i ≡ Err f → IsMissing src i a_quote f

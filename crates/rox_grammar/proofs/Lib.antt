@@ -5,3 +5,6 @@ pub mod CountForms
 pub mod NamesApart
 pub mod TagParts
 pub mod FirstEntity
+pub mod Lists
+pub mod Stretches
+pub mod AtIndex

@@ -31,3 +31,4 @@ pub mod FaultsWithDoctype
 pub mod Exchange
 pub mod CharText
 pub mod Failures
+pub mod AtIndex

@@ -18,7 +18,7 @@ use Rattle.rox_reading.proofs.Forests.{size-resolved}
 use Rattle.rox_theory.specs.Answers.{AreShort}
 use Rattle.rox_theory.proofs.Bound.{is_bounded}
 use Rattle.rox_theory.proofs.Longest.{parse_short}
-use Rattle.rox_prolog.specs.Requests.{Reply, AreAllowed}
+use Rattle.roxmltree.specs.Requests.{Reply, AreAllowed}
 use Rattle.rox_laws.specs.TreeSize.{bytes_of, all_bytes, all_attributes, IsTreeBounded}
 
 values_same : (scope : List NamespaceDecl) (as' : List written.Attribute) → sum_by (λ (a : Attribute). length a.value) (map (attribute_in scope) as') ≡ value_bytes_of as'

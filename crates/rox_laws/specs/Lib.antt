@@ -10,4 +10,4 @@ pub use Rattle.rox_grammar.specs.Entities
 pub use Rattle.rox_grammar.specs.Expansion
 pub use Rattle.rox_theory.specs.Answers
 pub use Rattle.rox_theory.specs.Pieces
-pub use Rattle.rox_prolog.specs.Requests
+pub use Rattle.roxmltree.specs.Requests

@@ -16,7 +16,7 @@ ghost use Rattle.rox_grammar.specs.Spans.{NamesText};
 ghost use Rattle.rox_grammar.specs.Exchange.{HasTree};
 ghost use Rattle.rox_theory.specs.Answers.{SameAnswers, AreShort};
 ghost use Rattle.rox_theory.specs.Pieces.{pieces_of, OnlySectionsAreEmpty};
-ghost use Rattle.rox_prolog.specs.Requests.{Allows, AreAllowed};
+ghost use Rattle.roxmltree.specs.Requests.{Allows, AreAllowed};
 ghost use Rattle.roxmltree.specs.EachNode.{EachNode};
 ghost use Rattle.rox_error.specs.FaultErrors.{IsErrorOf};
 ghost use Rattle.rox_error.specs.Messages.{message, message_with_position};
@@ -31,9 +31,8 @@ ghost use Rattle.roxmltree.specs.NodeParts.{node_at, start_of, end_of, attribute
 ghost use Rattle.roxmltree.specs.ExpandedNames.{IsNamedAt};
 ghost use Rattle.rox_laws.specs.NearestDeclaration.{upwards, NoneDeclares, IsNearest, IsElementAt, xml, listed_uri};
 
-use rox_prolog::resolver::EntityResolver;
-use roxmltree::Document;
 use roxmltree::laws::document_is_whole;
+use roxmltree::{Document, EntityResolver};
 
 /// States that a text has at most one tree for one list of answers, whatever the limits are. The text alone determines whether it
 /// has a document type declaration. Parses are unique too, within any limits or not. They depend on the answers alone: with equal

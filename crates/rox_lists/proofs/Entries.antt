@@ -1,7 +1,7 @@
 -- Rows of namespaces and of attributes, and what they name.
 use Rattle.std.proofs.Common.{◌≡◌, ℕ, zero, suc, ◌<◌, ◌≤◌, List, [], ◌∷◌, length, get_or, map, ap, arith}
 use Rattle.rox_storage.specs.Storage.{storage_bytes}
-use Rattle.rox_reading.specs.AtIndex.{namespace_at}
+use Rattle.rox_grammar.specs.AtIndex.{namespace_at}
 use Rattle.rox_rows.specs.Rows.{NamespaceWithin}
 use Rattle.rox_scopes.specs.NamespaceViews.{namespace_view}
 use Rattle.rox_scopes.specs.declared.namespace.Namespace.{Namespace}

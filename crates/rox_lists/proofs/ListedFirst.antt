@@ -3,7 +3,7 @@ use Rattle.std.proofs.Common.{◌≡◌, ℕ, ◌+◌, ◌<◌, Bool, true, fals
 use Rattle.std.proofs.lemmas.List.{drop_more}
 use Rattle.rox_grammar.specs.Written.{NamespaceDecl}
 use Rattle.rox_grammar.specs.Tree.{same_prefix, uri_of}
-use Rattle.rox_reading.specs.AtIndex.{namespace_at}
+use Rattle.rox_grammar.specs.AtIndex.{namespace_at}
 use Rattle.rox_scopes.specs.Scopes.{entries}
 use Rattle.rox_lists.specs.ExpandedNames.{first_with_prefix}
 

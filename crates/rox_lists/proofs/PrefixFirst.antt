@@ -2,7 +2,7 @@
 use Rattle.std.proofs.Common.{◌≡◌, ℕ, ◌+◌, ◌<◌, true, false, List, length, get_or, drop, bytes_eq, arith}
 use Rattle.std.proofs.lemmas.List.{drop_more}
 use Rattle.rox_grammar.specs.Written.{NamespaceDecl}
-use Rattle.rox_reading.specs.AtIndex.{namespace_at}
+use Rattle.rox_grammar.specs.AtIndex.{namespace_at}
 use Rattle.rox_scopes.specs.Scopes.{entries}
 use Rattle.rox_lists.specs.ExpandedNames.{first_prefix}
 

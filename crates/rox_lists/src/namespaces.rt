@@ -1,7 +1,7 @@
 //! The namespaces that an element lists.
 
 ghost use Rattle.std.specs.Prelude.{◌≡◌, ◌<◌, ◌^◌, [], length, map};
-ghost use Rattle.rox_reading.specs.AtIndex.{namespace_at};
+ghost use Rattle.rox_grammar.specs.AtIndex.{namespace_at};
 ghost use Rattle.rox_scopes.specs.NamespaceViews.{namespace_view};
 ghost use Rattle.rox_scopes.specs.Scopes.{places_in};
 ghost use Rattle.rox_scopes.specs.Ropes.{IsScopeOf};

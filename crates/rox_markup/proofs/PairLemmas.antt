@@ -15,7 +15,8 @@ use Rattle.rox_reading.specs.Markup.{pair_at}
 use Rattle.rox_grammar.specs.declared.fault.Word.TheVariants as word
 use Rattle.rox_bytes.specs.ByteSets.{AllPass, is_part_byte, IsOfLetters}
 use Rattle.rox_bytes.proofs.MarkLemmas.{stands_fits, stands_reads}
-use Rattle.rox_bytes.proofs.NearLemmas.{byte_is, part_begins, part_stops}
+use Rattle.rox_reading.proofs.ByteReads.{byte_is}
+use Rattle.rox_bytes.proofs.NearLemmas.{part_begins, part_stops}
 use Rattle.rox_bytes.proofs.RunLemmas.{run_stops_ascii, stands_within}
 
 quote_is : (src : List ℕ) (i : ℕ) → slice_index src i ≡ 34 → quote_at src i ≡ Ok (34, i + 1)

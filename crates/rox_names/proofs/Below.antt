@@ -10,14 +10,14 @@ use Rattle.rox_scopes.specs.declared.stored_scope.Scope.TheVariants as scope
 use Rattle.rox_scopes.specs.declared.stored_scope.Stretch.{Stretch}
 use Rattle.rox_names.specs.declared.tables.ElementTables.{ElementTables}
 use Rattle.rox_scopes.specs.declared.bindings.PrefixBindings.{PrefixBindings}
-use Rattle.rox_reading.specs.AtIndex.{namespace_at, scope_at}
+use Rattle.rox_grammar.specs.AtIndex.{namespace_at, scope_at}
 use Rattle.rox_scopes.specs.ScopeRows.{lists_of, AreRows, AreScopes}
 use Rattle.rox_scopes.specs.NamespaceViews.{namespace_view}
 use Rattle.rox_scopes.specs.Scopes.{entries, places_in, ArePlaces, PrefixesOnce, others, is_few_at}
 use Rattle.rox_scopes.specs.Ropes.{IsRope, IsListed, IsScopeOf}
 use Rattle.rox_scopes.specs.Bindings.{AreBindingsOf, IsBound, IsEntered, bound_place}
 use Rattle.rox_names.specs.TagScopes.{HasFewAbove, HasOpenTag, HasScope, HasBindings, HasBindingsOf, lists_in}
-use Rattle.rox_reading.proofs.Stretches.{slice-rest}
+use Rattle.rox_grammar.proofs.Stretches.{slice-rest}
 use Rattle.rox_scopes.proofs.Presenting.{keeps_grown}
 use Rattle.rox_scopes.proofs.Hiding.{others_none, once_both}
 use Rattle.rox_scopes.proofs.Sharing.{inherits_listed, places_behind, same_listed}

@@ -18,7 +18,7 @@ use Rattle.rox_grammar.specs.declared.failure.Failure.{Failure}
 use Rattle.rox_grammar.specs.declared.failure.Failure.TheVariants as failure
 use Rattle.rox_grammar.proofs.PairLemmas.{with_new-more, with_new-append}
 use Rattle.rox_scopes.specs.declared.namespace.Namespace.{Namespace}
-use Rattle.rox_reading.specs.AtIndex.{namespace_at}
+use Rattle.rox_grammar.specs.AtIndex.{namespace_at}
 use Rattle.rox_scopes.specs.ScopeRows.{lists_of, AreScopes}
 use Rattle.rox_scopes.specs.NamespaceViews.{namespace_view}
 use Rattle.rox_scopes.specs.PrefixSet.{IsPrefixSet}
@@ -31,9 +31,9 @@ use Rattle.rox_scopes.proofs.Presenting.{keeps_grown}
 use Rattle.rox_scopes.proofs.Remembering.{Key, remembers_same}
 use Rattle.rox_scopes.proofs.Listing.{with_new-front, listed-others, is_declared-own}
 use Rattle.rox_scopes.proofs.Hiding.{once_more}
-use Rattle.rox_reading.proofs.Stretches.{slice-rest}
-use Rattle.rox_reading.proofs.Lists.{all_append, all_drop, all_weaker, map_same}
-use Rattle.rox_reading.proofs.AtIndex.{namespace_at-append}
+use Rattle.rox_grammar.proofs.Stretches.{slice-rest}
+use Rattle.rox_grammar.proofs.Lists.{all_append, all_drop, all_weaker, map_same}
+use Rattle.rox_grammar.proofs.AtIndex.{namespace_at-append}
 use Rattle.rox_scopes.proofs.Ropes.{lists-append, scopes_more}
 
 -- the URI is refused

@@ -5,7 +5,7 @@ use Rattle.rox_grammar.specs.Written.{NamespaceDecl}
 use Rattle.rox_scopes.specs.declared.namespace.Namespace.{Namespace}
 use Rattle.rox_names.specs.declared.tables.ElementTables.{ElementTables}
 use Rattle.rox_scopes.specs.declared.stored_scope.Scope.{Scope}
-use Rattle.rox_reading.specs.AtIndex.{scope_at, OptionWithin}
+use Rattle.rox_grammar.specs.AtIndex.{scope_at, OptionWithin}
 use Rattle.rox_scopes.specs.NamespaceViews.{namespace_view}
 use Rattle.rox_scopes.specs.Scopes.{entries, places_in, is_few_at, ArePlaces}
 use Rattle.rox_scopes.specs.Bindings.{bound_place, IsBound, FindsBinding, LooksWithin, places_view}

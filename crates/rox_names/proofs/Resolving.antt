@@ -16,7 +16,7 @@ use Rattle.rox_grammar.specs.declared.failure.Failure.TheVariants as failure
 use Rattle.rox_rows.specs.Rows.{attribute, attribute_uri, NamespaceWithin, AttributeRow}
 use Rattle.rox_names.specs.TagDeclarations.{unresolved_view}
 use Rattle.rox_names.specs.ResolvedNames.{row_of_unresolved}
-use Rattle.rox_reading.proofs.Lists.{all_append}
+use Rattle.rox_grammar.proofs.Lists.{all_append}
 
 -- The first k of these attributes have rows at the end of the table, and those from k on are still to be moved.
 pub record Moving (n : ℕ) (initial : List UnresolvedAttribute) (old : List AttributeRow) (k : ℕ) (now : List UnresolvedAttribute) (table : List AttributeRow) : Type 0 where

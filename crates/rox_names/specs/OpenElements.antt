@@ -4,7 +4,7 @@ use Rattle.rox_grammar.specs.Written.{Name}
 use Rattle.rox_grammar.specs.Tree.{element_namespace}
 use Rattle.rox_reading.specs.Lexical.{qname_at}
 use Rattle.rox_grammar.specs.Failures.{name_view}
-use Rattle.rox_reading.specs.AtIndex.{namespace_at, scope_at, OptionWithin}
+use Rattle.rox_grammar.specs.AtIndex.{namespace_at, scope_at, OptionWithin}
 use Rattle.rox_rows.specs.Rows.{numbered_place}
 use Rattle.rox_scopes.specs.NamespaceViews.{namespace_view}
 use Rattle.rox_names.specs.SpelledNames.{before_colon, is_prefixed, kept_length, KeepsName, spelled_name}

@@ -14,7 +14,7 @@ use Rattle.rox_names.specs.ExpandedNames.{HasExpandedNames, Key, TestedOr}
 use Rattle.rox_names.specs.ResolvedNames.{AddsNew, IsNamespaceOf, Tested}
 use Rattle.rox_seen.specs.SeenNames.{has_expanded, KeepsCodes, PutsSeen, SeesName}
 use Rattle.rox_rows.specs.Rows.{AttributeRow, NamespaceWithin, attribute}
-use Rattle.rox_reading.specs.AtIndex.{OptionWithin, namespace_at}
+use Rattle.rox_grammar.specs.AtIndex.{OptionWithin, namespace_at}
 use Rattle.rox_scopes.specs.NamespaceViews.{namespace_view}
 use Rattle.rox_rows.specs.StoredAttributes.{data_of}
 use Rattle.rox_names.specs.TagDeclarations.{unresolved_view}

@@ -2,7 +2,7 @@
 use Rattle.std.specs.Prelude.{◌≡◌, ℕ, ◌<◌, ◌≤◌, Bool, false, List, ◌++◌, Option, length, map, drop, slice_index_or}
 use Rattle.std.specs.Borrow.{Bor}
 use Rattle.rox_grammar.specs.Written.{NamespaceDecl}
-use Rattle.rox_reading.specs.AtIndex.{scope_at}
+use Rattle.rox_grammar.specs.AtIndex.{scope_at}
 use Rattle.rox_scopes.specs.ScopeRows.{lists_of, AreScopes}
 use Rattle.rox_scopes.specs.NamespaceViews.{namespace_view}
 use Rattle.rox_scopes.specs.Bindings.{AreBindingsOf, IsBound, bound_place}

@@ -1,7 +1,5 @@
-pub mod Stretches
+pub mod ByteReads
 pub mod Forests
 pub mod Answering
 pub mod Settling
 pub mod FaultsAlone
-pub mod Lists
-pub mod AtIndex

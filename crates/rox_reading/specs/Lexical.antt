@@ -12,10 +12,6 @@ use Rattle.rox_grammar.specs.Search.{stands, before_mark, mark_from}
 use Rattle.rox_grammar.specs.Written.{Name}
 use Rattle.rox_grammar.specs.Names.{spaces_end}
 
--- Whether the mark is somewhere in the text.
-abbrev pub has_mark : List ℕ → List ℕ → Bool
-has_mark mark text = nat_lt (before_mark mark text) (length text)
-
 -- A value and the next offset, or a fault.
 abbrev pub Read : Type 0 → Type 0
 Read A = Result (A × ℕ) Fault

@@ -10,4 +10,3 @@ pub mod WholeText
 pub mod HasDoctype
 pub mod Stopping
 pub mod Answering
-pub mod AtIndex

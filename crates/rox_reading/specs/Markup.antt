@@ -8,11 +8,11 @@ use Rattle.rox_grammar.specs.declared.fault.Word.TheVariants as word
 use Rattle.rox_grammar.specs.declared.fault.Expected.TheVariants as expected
 use Rattle.rox_grammar.specs.Chars.{is_space}
 use Rattle.rox_grammar.specs.FixedTexts.{word_text, double_dash}
-use Rattle.rox_grammar.specs.Search.{stands, byte_from}
+use Rattle.rox_grammar.specs.Search.{stands, byte_from, has_mark}
 use Rattle.rox_grammar.specs.Written.{Name}
 use Rattle.rox_grammar.specs.Tree.{none_if_empty}
 use Rattle.rox_grammar.specs.Names.{spaces_end}
-use Rattle.rox_reading.specs.Lexical.{has_mark, Read, ◌>>=◌, byte_at, quote_at, name_at, qname_at, string_at, chars_up_to, text_to}
+use Rattle.rox_reading.specs.Lexical.{Read, ◌>>=◌, byte_at, quote_at, name_at, qname_at, string_at, chars_up_to, text_to}
 
 -- Reads a comment from `<!--` on.
 unfoldable pub comment_at : List ℕ → ℕ → Read (List ℕ)

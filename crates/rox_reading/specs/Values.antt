@@ -8,12 +8,12 @@ use Rattle.rox_grammar.specs.declared.fault.Word.TheVariants as word
 use Rattle.rox_grammar.specs.FixedTexts.{word_text}
 use Rattle.rox_grammar.specs.Chars.{is_name_start, is_name_char, is_char}
 use Rattle.rox_grammar.specs.Runs.{run_end, begins}
-use Rattle.rox_grammar.specs.Search.{byte_from}
+use Rattle.rox_grammar.specs.Search.{byte_from, has_mark}
 use Rattle.rox_grammar.specs.References.{is_digit, is_hex_digit, number, bytes_end, character, predefined}
 use Rattle.rox_grammar.specs.Content.{is_verbatim_value, literals, line_ends, value_bytes}
 use Rattle.rox_grammar.specs.Entities.{Replacement, Entity, text_of}
 use Rattle.rox_reading.specs.Refusals.{Refusal, lifted}
-use Rattle.rox_reading.specs.Lexical.{has_mark, Read, ◌>>=◌, chars_up_to}
+use Rattle.rox_reading.specs.Lexical.{Read, ◌>>=◌, chars_up_to}
 
 -- A reference to a character, or to an entity.
 pub data Reference : Type 0 where

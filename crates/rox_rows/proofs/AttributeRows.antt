@@ -12,7 +12,7 @@ use Rattle.rox_rows.specs.declared.row.AttributePlaces.{AttributePlaces}
 use Rattle.rox_rows.specs.declared.stored_attribute.StoredAttribute.{StoredAttribute}
 use Rattle.rox_rows.specs.declared.attributes.AttributeTable.{AttributeTable}
 use Rattle.rox_rows.specs.Rows.{AttributeRow, attribute_rows}
-use Rattle.rox_reading.proofs.Stretches.{slice-rest}
+use Rattle.rox_grammar.proofs.Stretches.{slice-rest}
 
 pub length_rows : (t : AttributeTable) → length (attribute_rows t) ≡ length t.items.items
 length_rows t = length-map t.items.items (row_in t.explicit.items)

@@ -8,10 +8,10 @@ use Rattle.rox_rows.specs.declared.row.NodeKind.{NodeKind}
 use Rattle.rox_rows.specs.declared.row.NodeKind.TheVariants as kind
 use Rattle.rox_rows.specs.declared.row.NodeData.{NodeData}
 use Rattle.rox_rows.specs.Rows.{row_view, node, numbered_place, attribute, attribute_uri, NamespaceWithin, KindWithin, AttributeRow}
-use Rattle.rox_reading.specs.AtIndex.{namespace_at, scope_at, OptionWithin}
-use Rattle.rox_reading.proofs.Lists.{all_slice, map_same}
-use Rattle.rox_reading.proofs.Stretches.{slice-append}
-use Rattle.rox_reading.proofs.AtIndex.{namespace_at-append, scope_at-append}
+use Rattle.rox_grammar.specs.AtIndex.{namespace_at, scope_at, OptionWithin}
+use Rattle.rox_grammar.proofs.Lists.{all_slice, map_same}
+use Rattle.rox_grammar.proofs.Stretches.{slice-append}
+use Rattle.rox_grammar.proofs.AtIndex.{namespace_at-append, scope_at-append}
 
 -- ---- entries
 

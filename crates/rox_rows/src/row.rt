@@ -2,7 +2,7 @@
 
 ghost use Rattle.std.specs.Prelude.{◌≡◌};
 ghost use Rattle.rox_grammar.specs.Document.{most_pairs};
-ghost use Rattle.rox_reading.specs.AtIndex.{OptionWithin};
+ghost use Rattle.rox_grammar.specs.AtIndex.{OptionWithin};
 ghost use Rattle.rox_rows.specs.Rows.{numbered_place};
 
 use rox_storage::storage::StringStorage;

@@ -8,7 +8,7 @@ use Rattle.std.proofs.lemmas.Bool.{and_parts, and_from, cases_lt, cond-true, con
 use Rattle.std.proofs.lemmas.List.{append-nil, drop-take, drop-drop, take-append-drop, get_or-drop}
 use Rattle.std.proofs.lemmas.List.Folds.{list_all-append}
 use Rattle.std.proofs.lemmas.Str.{chars-nil, chars-append, chars_past_char, encodes-chars, length-encode, len_utf8_ascii, IsUtf8-between, IsCharBoundary-before_ascii, IsCharBoundary-after_ascii}
-use Rattle.rox_reading.proofs.Stretches.{range_length, range_parts}
+use Rattle.rox_grammar.proofs.Stretches.{range_length, range_parts}
 use Rattle.rox_bytes.proofs.RunLemmas.{stands_ascii}
 use Rattle.rox_grammar.proofs.Passing.{all_pass, all_passing}
 use Rattle.rox_grammar.specs.Chars.{is_char}

@@ -6,3 +6,4 @@ pub mod LineLemmas
 pub mod WideLemmas
 pub mod MarkSearch
 pub mod NameRuns
+pub mod NearReads

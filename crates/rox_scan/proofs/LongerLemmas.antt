@@ -8,9 +8,9 @@ use Rattle.std.proofs.lemmas.List.{drop_more, get_or_past, get_or-take, drop-dro
 use Rattle.std.proofs.lemmas.List.Folds.{list_any-append}
 use Rattle.rox_grammar.specs.Constructs.{AreChars}
 use Rattle.rox_grammar.specs.FixedTexts.{double_dash, word_text}
-use Rattle.rox_grammar.specs.Search.{byte_from, mark_from, stands}
+use Rattle.rox_grammar.specs.Search.{byte_from, mark_from, stands, has_mark}
 use Rattle.rox_grammar.specs.declared.fault.Word.TheVariants as word
-use Rattle.rox_reading.specs.Lexical.{has_mark, chars_up_to, text_to, string_at}
+use Rattle.rox_reading.specs.Lexical.{chars_up_to, text_to, string_at}
 use Rattle.rox_reading.specs.Markup.{raw_value_at, comment_at}
 use Rattle.rox_reading.specs.Values.{is_special}
 use Rattle.rox_bytes.specs.ByteSets.{is_char_byte, AllPass, EndsEased, is_value_byte, is_any_value_byte, is_quoted_byte, is_text_byte, is_comment_byte, is_ascii_comment_byte}
@@ -19,7 +19,7 @@ use Rattle.rox_bytes.proofs.NearLemmas.{either_first, near_chars, near_found, no
 use Rattle.rox_bytes.proofs.EasedLemmas.{eased_byte, eased_chars}
 use Rattle.rox_bytes.proofs.MarkLemmas.{before_mark_is, not_from_first, fails, stands_split, stands_from_split}
 use Rattle.rox_scan.proofs.CharLemmas.{chars_joined}
-use Rattle.rox_reading.proofs.Stretches.{range_parts, range_length}
+use Rattle.rox_grammar.proofs.Stretches.{range_parts, range_length}
 
 and_true : (b : Bool) → (b && true) ≡ b
 and_true b = grind arith

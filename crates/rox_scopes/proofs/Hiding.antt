@@ -7,7 +7,7 @@ use Rattle.rox_grammar.specs.Written.{NamespaceDecl}
 use Rattle.rox_grammar.specs.Tree.{same_prefix, is_declared, is_xml, uri_of}
 use Rattle.rox_grammar.specs.FixedTexts.{word_text}
 use Rattle.rox_grammar.specs.declared.fault.Word.TheVariants.{Xml}
-use Rattle.rox_reading.specs.AtIndex.{namespace_at}
+use Rattle.rox_grammar.specs.AtIndex.{namespace_at}
 use Rattle.rox_scopes.specs.Scopes.{entries, others, PrefixesOnce, unlisted}
 use Rattle.rox_scopes.proofs.Leaves.{cut}
 use Rattle.rox_scopes.proofs.Listing.{same_prefix-sym}

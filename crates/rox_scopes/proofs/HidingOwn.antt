@@ -7,14 +7,14 @@ use Rattle.rox_grammar.specs.Written.{NamespaceDecl}
 use Rattle.rox_grammar.specs.Tree.{is_declared}
 use Rattle.rox_scopes.specs.declared.namespace.Namespace.{Namespace}
 use Rattle.rox_scopes.specs.declared.stored_scope.Scope.{Scope}
-use Rattle.rox_reading.specs.AtIndex.{namespace_at}
+use Rattle.rox_grammar.specs.AtIndex.{namespace_at}
 use Rattle.rox_scopes.specs.ScopeRows.{AreScopes}
 use Rattle.rox_scopes.specs.NamespaceViews.{namespace_view}
 use Rattle.rox_scopes.specs.Scopes.{entries, places_in, ArePlaces, others, unlisted}
 use Rattle.rox_scopes.specs.Ropes.{IsListed}
 use Rattle.rox_scopes.specs.Bindings.{IsBound}
 use Rattle.rox_scopes.proofs.Pairs.{place_at, namespace_at-get, declared_none}
-use Rattle.rox_reading.proofs.Stretches.{slice-more}
+use Rattle.rox_grammar.proofs.Stretches.{slice-more}
 use Rattle.rox_scopes.proofs.Hiding.{others_more, others_none, others_xml, absent_others}
 use Rattle.rox_scopes.proofs.Sharing.{same_listed, listed_then}
 

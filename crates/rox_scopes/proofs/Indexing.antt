@@ -17,7 +17,7 @@ use Rattle.rox_grammar.specs.Counts.{has_pair}
 use Rattle.rox_grammar.proofs.PairLemmas.{same_pair-true}
 use Rattle.rox_scopes.specs.declared.namespace_table.Key.{Key}
 use Rattle.rox_scopes.specs.declared.namespace.Namespace.{Namespace}
-use Rattle.rox_reading.specs.AtIndex.{namespace_at}
+use Rattle.rox_grammar.specs.AtIndex.{namespace_at}
 use Rattle.rox_scopes.specs.NamespaceViews.{namespace_view}
 use Rattle.rox_scopes.specs.PairIndex.{pair_cmp, key_cmp, few_pairs, place_of, place_behind, place_among}
 

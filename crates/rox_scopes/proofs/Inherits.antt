@@ -3,12 +3,12 @@ use Rattle.std.proofs.Common.{◌≡◌, ℕ, ◌+◌, ◌<◌, ◌≤◌, ◌&&
 use Rattle.std.proofs.lemmas.List.{map-append, append-nil, get_or_default, get_or_append_left}
 use Rattle.std.proofs.lemmas.List.Elements.{filter-append}
 use Rattle.rox_grammar.specs.Tree.{is_declared, is_xml}
-use Rattle.rox_reading.proofs.Stretches.{slice-more, slice-rest, slice-append}
+use Rattle.rox_grammar.proofs.Stretches.{slice-more, slice-rest, slice-append}
 use Rattle.rox_scopes.specs.declared.namespace.Namespace.{Namespace}
-use Rattle.rox_reading.specs.AtIndex.{namespace_at}
+use Rattle.rox_grammar.specs.AtIndex.{namespace_at}
 use Rattle.rox_scopes.specs.NamespaceViews.{namespace_view}
 use Rattle.rox_scopes.specs.Scopes.{entries, ArePlaces, others}
-use Rattle.rox_reading.proofs.Lists.{all_append}
+use Rattle.rox_grammar.proofs.Lists.{all_append}
 use Rattle.rox_scopes.proofs.Pairs.{place_at, namespace_at-get}
 
 pub record Inherited (rows : List Namespace) (old : List ℕ) (own : ℕ) (xml : Bool) (from turn end : ℕ) (now : List ℕ) : Type 0 where

@@ -2,7 +2,7 @@
 use Rattle.std.proofs.Common.{◌≡◌, ℕ, zero, suc, ◌+◌, ◌-◌, ◌<◌, ◌≤◌, List, [], ◌∷◌, ◌++◌, length, take, drop, reverse, get_or, refl, sym, ap, ◌∙◌, arith, append_assoc, get_or-drop, slice_range}
 use Rattle.std.proofs.Math.Seq.{take-append_seam, take-append-add, drop-append-add}
 use Rattle.std.proofs.lemmas.List.{take-append-le, drop-append-le, get_or-take, get_or-reverse, length-reverse, reverse-append}
-use Rattle.rox_reading.proofs.Stretches.{range_length, range_parts}
+use Rattle.rox_grammar.proofs.Stretches.{range_length, range_parts}
 
 -- the one at this place of a stretch
 pub range_get : (xs : List ℕ) (i j k d : ℕ) → k < j - i → get_or (slice_range xs i j) k d ≡ get_or xs (i + k) d

@@ -6,7 +6,7 @@ use Rattle.rox_grammar.specs.Written.{NamespaceDecl}
 use Rattle.rox_grammar.specs.Tree.{same_prefix, is_declared, uri_of}
 pub use Rattle.rox_grammar.proofs.PairLemmas.{same_prefix-true, same_prefix-refl}
 use Rattle.rox_scopes.specs.declared.namespace.Namespace.{Namespace}
-use Rattle.rox_reading.specs.AtIndex.{namespace_at}
+use Rattle.rox_grammar.specs.AtIndex.{namespace_at}
 use Rattle.rox_scopes.specs.NamespaceViews.{namespace_view}
 use Rattle.rox_scopes.specs.Scopes.{entries, ArePlaces}
 

@@ -6,7 +6,7 @@ use Rattle.std.proofs.Math.ListN.{drop_of_length-le}
 use Rattle.rox_grammar.specs.Written.{NamespaceDecl}
 use Rattle.rox_grammar.specs.Tree.{same_prefix, is_declared, uri_of, is_xml}
 use Rattle.rox_scopes.specs.declared.namespace.Namespace.{Namespace}
-use Rattle.rox_reading.specs.AtIndex.{namespace_at, scope_at, OptionWithin}
+use Rattle.rox_grammar.specs.AtIndex.{namespace_at, scope_at, OptionWithin}
 use Rattle.rox_scopes.specs.NamespaceViews.{namespace_view}
 use Rattle.rox_scopes.specs.Scopes.{prefix_view, entries, ArePlaces, others}
 use Rattle.std.specs.BTreeMap.{BTreeMap, get_by}
@@ -19,8 +19,8 @@ use Rattle.rox_scopes.specs.declared.bindings.PrefixBindings.{PrefixBindings}
 use Rattle.rox_grammar.specs.declared.fault.Word.TheVariants.{Xml}
 use Rattle.rox_grammar.specs.FixedTexts.{word_text}
 use Rattle.rox_scopes.proofs.Listing.{same_prefix-sym}
-use Rattle.rox_reading.proofs.AtIndex.{namespace_at-append, scope_at-append}
-use Rattle.rox_reading.proofs.Stretches.{slice-more}
+use Rattle.rox_grammar.proofs.AtIndex.{namespace_at-append, scope_at-append}
+use Rattle.rox_grammar.proofs.Stretches.{slice-more}
 use Rattle.rox_scopes.proofs.Pairs.{same_prefix-true, declared_none, place_at, namespace_at-get}
 
 abbrev pub Places : Type 0

@@ -14,7 +14,7 @@ use mathlib.Core.Bool.{or_comm, or_assoc}
 use Rattle.rox_grammar.specs.Written.{NamespaceDecl}
 use Rattle.rox_grammar.specs.Tree.{same_prefix, is_declared}
 use Rattle.rox_scopes.specs.declared.namespace.Namespace.{Namespace}
-use Rattle.rox_reading.specs.AtIndex.{namespace_at}
+use Rattle.rox_grammar.specs.AtIndex.{namespace_at}
 use Rattle.rox_scopes.specs.NamespaceViews.{namespace_view}
 use Rattle.rox_scopes.specs.Scopes.{prefix_view, entries, ArePlaces}
 use Rattle.rox_scopes.specs.PrefixSet.{has_prefix, IsPrefixSet}

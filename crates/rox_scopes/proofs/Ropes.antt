@@ -5,18 +5,18 @@ use Rattle.std.proofs.lemmas.Grind.{reverse_onto}
 use Rattle.std.proofs.Math.Seq.{get_or-append_seam}
 use Rattle.std.proofs.lemmas.List.{append-nil, length-map, length-reverse, map-append, take-append-drop, take-append-le, get_or_append_left, get_or_default}
 use Rattle.rox_grammar.specs.Written.{NamespaceDecl}
-use Rattle.rox_reading.proofs.Stretches.{range_length}
+use Rattle.rox_grammar.proofs.Stretches.{range_length}
 use Rattle.rox_scopes.specs.declared.stored_scope.Concat.{Concat}
 use Rattle.rox_scopes.specs.declared.stored_scope.Scope.{Scope}
 use Rattle.rox_scopes.specs.declared.stored_scope.Scope.TheVariants as scope
-use Rattle.rox_reading.specs.AtIndex.{namespace_at, scope_at}
+use Rattle.rox_grammar.specs.AtIndex.{namespace_at, scope_at}
 use Rattle.rox_scopes.specs.ScopeRows.{listed_at, made, places_on, places_of, lists_of, count_of, count_at, IsRow, AreRows, EndsWithin, AreScopes}
 use Rattle.rox_scopes.specs.Scopes.{entries, places_in, is_few_at, ArePlaces}
 use Rattle.rox_scopes.specs.Ropes.{IsRope}
 use Rattle.rox_scopes.specs.declared.stored_scope.Stretch.{Stretch}
 use Rattle.rox_scopes.proofs.Leaves.{range_get, back_get}
-use Rattle.rox_reading.proofs.Lists.{all_append, all_slice, all_weaker, map_same}
-use Rattle.rox_reading.proofs.AtIndex.{namespace_at-append}
+use Rattle.rox_grammar.proofs.Lists.{all_append, all_slice, all_weaker, map_same}
+use Rattle.rox_grammar.proofs.AtIndex.{namespace_at-append}
 
 -- ---- lists of places
 

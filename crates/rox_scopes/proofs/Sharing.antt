@@ -9,8 +9,8 @@ use Rattle.rox_scopes.specs.declared.stored_scope.Stretch.{Stretch}
 use Rattle.rox_scopes.specs.ScopeRows.{AreScopes}
 use Rattle.rox_scopes.specs.Scopes.{entries, places_in, ArePlaces}
 use Rattle.rox_scopes.specs.Ropes.{IsRope, IsListed}
-use Rattle.rox_reading.proofs.Lists.{all_append, all_drop}
-use Rattle.rox_reading.proofs.Stretches.{slice-rest}
+use Rattle.rox_grammar.proofs.Lists.{all_append, all_drop}
+use Rattle.rox_grammar.proofs.Stretches.{slice-rest}
 use Rattle.rox_scopes.proofs.Ropes.{all_reverse, scopes_more, scopes_push, pushed_places}
 
 -- ---- what is listed once more, in reverse order

@@ -13,7 +13,7 @@ use Rattle.rox_grammar.specs.declared.fault.Fault.TheVariants as fault
 use Rattle.rox_grammar.specs.Written.{NamespaceDecl}
 use Rattle.rox_grammar.specs.Document.{most_pairs, same_pair}
 use Rattle.rox_grammar.specs.Counts.{has_pair, with_new}
-use Rattle.rox_reading.specs.AtIndex.{namespace_at}
+use Rattle.rox_grammar.specs.AtIndex.{namespace_at}
 use Rattle.rox_scopes.specs.NamespaceViews.{namespace_view}
 use Rattle.rox_scopes.specs.declared.namespace_table.Key.{Key}
 use Rattle.rox_scopes.specs.declared.namespace.Namespace.{Namespace}

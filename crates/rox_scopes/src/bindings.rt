@@ -3,7 +3,7 @@
 
 ghost use Rattle.std.specs.Prelude.{◌≡◌, ◌<◌, ◌-◌, List, Option, Some, None, true, length, map, reverse, slice_range, OnOk, if◌then◌else◌, [], ◌≤◌};
 ghost use Rattle.rox_grammar.specs.Written.{NamespaceDecl};
-ghost use Rattle.rox_reading.specs.AtIndex.{scope_at};
+ghost use Rattle.rox_grammar.specs.AtIndex.{scope_at};
 ghost use Rattle.rox_scopes.specs.ScopeRows.{lists_of};
 ghost use Rattle.rox_scopes.specs.NamespaceViews.{namespace_view};
 ghost use Rattle.rox_scopes.specs.Scopes.{prefix_view, entries, ArePlaces};

@@ -2,7 +2,7 @@
 
 ghost use Rattle.std.specs.Prelude.{◌≡◌, ◌<◌, ◌++◌, ◌∷◌, ◌||◌, [], ℕ, List, Option, length, map, OnOk};
 ghost use Rattle.rox_grammar.specs.Tree.{same_prefix};
-ghost use Rattle.rox_reading.specs.AtIndex.{namespace_at};
+ghost use Rattle.rox_grammar.specs.AtIndex.{namespace_at};
 ghost use Rattle.rox_scopes.specs.NamespaceViews.{namespace_view};
 ghost use Rattle.rox_scopes.specs.Scopes.{prefix_view, ArePlaces};
 ghost use Rattle.rox_scopes.specs.PrefixSet.{has_prefix, IsPrefixSet};

@@ -10,7 +10,7 @@ use Rattle.rox_grammar.specs.Search.{mark_from, stands}
 use Rattle.rox_grammar.specs.declared.fault.Word.TheVariants as word
 use Rattle.rox_reading.specs.Lexical.{chars_up_to, text_to, string_at}
 use Rattle.rox_reading.specs.Markup.{cdata_at}
-use Rattle.rox_reading.proofs.Stretches.{range_length}
+use Rattle.rox_grammar.proofs.Stretches.{range_length}
 use Rattle.rox_values.specs.Values.{section_text}
 use Rattle.rox_values.proofs.SectionLemmas.{section_plain}
 use Rattle.rox_bytes.specs.ByteSets.{AllPass, is_char_byte}

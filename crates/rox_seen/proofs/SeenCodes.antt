@@ -17,7 +17,7 @@ use Rattle.rox_rows.specs.declared.row.AttributeNamespace.{AttributeNamespace}
 use Rattle.rox_rows.specs.declared.attributes.AttributeTable.{AttributeTable}
 use Rattle.rox_rows.specs.declared.stored_attribute.StoredAttribute.{StoredAttribute}
 use Rattle.rox_seen.specs.declared.seen_names.SeenNames.{SeenNames}
-use Rattle.rox_reading.proofs.Lists.{all_append, all_weaker}
+use Rattle.rox_grammar.proofs.Lists.{all_append, all_weaker}
 
 -- a code whose bit is clear is not there
 pub not_there : (codes : List ℕ) (code : ℕ) → eqb (bit_and (get_or codes (code / 64) 0 / 2 ^ (code % 64)) 1) 1 ≡ false → HasCode codes code → ⊥

@@ -17,7 +17,7 @@ use Rattle.rox_values.specs.Refusals.{IsRefusal}
 use Rattle.rox_values.specs.declared.context.Context.{Context}
 use Rattle.rox_values.specs.declared.parse_error.ParseError.{ParseError}
 use Rattle.rox_rows.specs.Rows.{attribute, NamespaceWithin, numbered_place, AttributeRow, attribute_rows}
-use Rattle.rox_reading.specs.AtIndex.{namespace_at, scope_at, OptionWithin}
+use Rattle.rox_grammar.specs.AtIndex.{namespace_at, scope_at, OptionWithin}
 use Rattle.rox_scopes.specs.ScopeRows.{AreScopes}
 use Rattle.rox_scopes.specs.NamespaceViews.{namespace_view}
 use Rattle.rox_scopes.specs.Scopes.{ArePlaces, PrefixesOnce}

@@ -6,7 +6,7 @@ use Rattle.rox_grammar.specs.WellNamed.{may_name}
 use Rattle.rox_scopes.proofs.Pairs.{declared_some}
 use Rattle.rox_grammar.specs.Tree.{element_namespace}
 use Rattle.rox_rows.specs.Rows.{numbered_place}
-use Rattle.rox_reading.specs.AtIndex.{scope_at, namespace_at}
+use Rattle.rox_grammar.specs.AtIndex.{scope_at, namespace_at}
 use Rattle.rox_scopes.specs.Scopes.{entries, places_in}
 use Rattle.rox_names.specs.TagScopes.{lists_in}
 use Rattle.rox_names.specs.declared.tables.ElementTables.{ElementTables}
@@ -21,7 +21,7 @@ use Rattle.rox_scopes.specs.Bindings.{FindsBinding}
 use Rattle.rox_scopes.specs.NamespaceViews.{namespace_view}
 use Rattle.rox_attributes.specs.PlainAttribute.{few_in}
 use Rattle.rox_bytes.proofs.RunLemmas.{stands_within}
-use Rattle.rox_bytes.proofs.NearLemmas.{byte_is}
+use Rattle.rox_reading.proofs.ByteReads.{byte_is}
 
 -- ---- what a tag holds next
 

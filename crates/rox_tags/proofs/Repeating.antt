@@ -7,7 +7,7 @@ use Rattle.rox_grammar.specs.Counts.{has_pair, with_new}
 use Rattle.rox_grammar.specs.Document.{most_pairs, same_pair}
 use Rattle.rox_grammar.specs.Tree.{is_declared, is_xml, listable_of, listed, same_prefix}
 use Rattle.rox_grammar.specs.Written.{NamespaceDecl, namespace_decl_of}
-use Rattle.rox_reading.specs.AtIndex.{namespace_at}
+use Rattle.rox_grammar.specs.AtIndex.{namespace_at}
 use Rattle.rox_scopes.specs.NamespaceViews.{namespace_view}
 use Rattle.rox_scopes.specs.Scopes.{ArePlaces, PrefixesOnce, entries, places_in}
 use Rattle.rox_names.specs.TagScopes.{scope_in_tables}

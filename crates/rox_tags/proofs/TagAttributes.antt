@@ -23,7 +23,7 @@ use Rattle.rox_reading.specs.Tags.{TagSoFar, Values, attribute_with, attributes_
 use Rattle.rox_scopes.specs.Bindings.{FindsBinding}
 use Rattle.rox_names.specs.ResolvedNames.{AddsResolved, row_of_unresolved}
 use Rattle.rox_rows.specs.Rows.{AttributeRow, NamespaceWithin, attribute, attribute_rows}
-use Rattle.rox_reading.specs.AtIndex.{scope_at}
+use Rattle.rox_grammar.specs.AtIndex.{scope_at}
 use Rattle.rox_scopes.specs.ScopeRows.{AreRows, AreScopes}
 use Rattle.rox_scopes.specs.NamespaceViews.{namespace_view}
 use Rattle.rox_scopes.specs.Scopes.{ArePlaces, entries}
@@ -40,7 +40,7 @@ use Rattle.rox_names.proofs.Declaring.{once_none}
 use Rattle.rox_scopes.proofs.Listing.{with_new-append, with_new-front}
 use Rattle.rox_names.proofs.NameTests.{tested_on}
 use Rattle.rox_scopes.proofs.Remembering.{remembers_none}
-use Rattle.rox_reading.proofs.Lists.{all_append, all_weaker, map_same}
+use Rattle.rox_grammar.proofs.Lists.{all_append, all_weaker, map_same}
 use Rattle.rox_rows.proofs.Stable.{attribute-append}
 use Rattle.rox_attributes.specs.PlainAttribute.{AddsPlain, HasScope, IsPlainAttribute, few_in}
 use Rattle.rox_tags.specs.TagAttributes.{AreNoBindings, ArePlainAttributes, DeclaresIn, DeclaresInRoot, HasGrown, HasRootScope, HoldsSoFar, ListsDeclaration, MayBegin, PlainSoFar, ReadsUpTo, first_places, holding}

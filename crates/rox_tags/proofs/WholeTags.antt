@@ -13,7 +13,7 @@ use Rattle.rox_grammar.specs.Written.{NamespaceDecl}
 use Rattle.rox_reading.specs.Lexical.{qname_at}
 use Rattle.rox_reading.specs.Tags.{Values, attributes_at, names_tested, tag_tested}
 use Rattle.rox_rows.specs.Rows.{attribute_rows, numbered_place}
-use Rattle.rox_reading.specs.AtIndex.{namespace_at}
+use Rattle.rox_grammar.specs.AtIndex.{namespace_at}
 use Rattle.rox_scopes.specs.NamespaceViews.{namespace_view}
 use Rattle.rox_names.specs.TagScopes.{scope_in_tables}
 use Rattle.rox_names.specs.declared.tables.ElementTables.{ElementTables}

@@ -4,7 +4,7 @@ use Rattle.rox_grammar.specs.Counts.{has_pair}
 use Rattle.rox_grammar.specs.Tree.{is_declared, is_xml}
 use Rattle.rox_grammar.specs.Written.{Attribute, NamespaceDecl, is_namespace_decl, namespace_decl_of}
 use Rattle.rox_reading.specs.Tags.{uri_tested}
-use Rattle.rox_reading.specs.AtIndex.{namespace_at}
+use Rattle.rox_grammar.specs.AtIndex.{namespace_at}
 use Rattle.rox_scopes.specs.NamespaceViews.{namespace_view}
 use Rattle.rox_names.specs.TagScopes.{scope_in_tables}
 use Rattle.rox_names.specs.declared.tables.ElementTables.{ElementTables}

@@ -11,7 +11,7 @@ use Rattle.rox_grammar.proofs.Passing.{all_passing}
 use Rattle.rox_grammar.specs.Names.{byte, slice}
 use Rattle.rox_grammar.specs.Constructs.{AreChars}
 use Rattle.rox_grammar.specs.References.{is_digit, is_hex_digit, IsNumber, IsReference, IsCharacter, decimal, hexadecimal, named}
-use Rattle.rox_reading.proofs.Stretches.{range_parts, range_length}
+use Rattle.rox_grammar.proofs.Stretches.{range_parts, range_length}
 use Rattle.rox_theory.proofs.ReferenceStarts.{hash_bytes, hex_bytes}
 use Rattle.rox_theory.proofs.Productions.{number_parts, reference_parts}
 use Rattle.rox_theory.proofs.Basics.{within}

@@ -14,7 +14,7 @@ use Rattle.rox_grammar.specs.Names.{byte, slice}
 use Rattle.rox_grammar.specs.Constructs.{AreChars}
 use Rattle.rox_theory.proofs.Basics.{within}
 pub use Rattle.rox_grammar.specs.CharText.{IsCharText}
-use Rattle.rox_reading.proofs.Stretches.{range_parts, range_length}
+use Rattle.rox_grammar.proofs.Stretches.{range_parts, range_length}
 
 -- ---- joined and cut
 

@@ -14,7 +14,7 @@ use Rattle.rox_grammar.specs.Doctype as grammar
 use Rattle.rox_grammar.proofs.AtPlace.{run_at_end}
 use Rattle.rox_reading.specs.Lexical.{space_at, name_at}
 use Rattle.rox_reading.specs.Doctype.{quoted_at, system_at, public_at, external_id_at, name_or_end_at, notation_at, Definition, inner, outer, definition_at, EntityHead, kind_at, entity_head_at, external_id_if, doctype_head_at}
-use Rattle.rox_reading.proofs.Stretches.{range_length}
+use Rattle.rox_grammar.proofs.Stretches.{range_length}
 use Rattle.rox_theory.proofs.Basics.{ok_same, bind_ok, chosen, within, byte_sound, byte_complete, run_end_le}
 use Rattle.rox_theory.proofs.NameLemmas.{name_sound, name_complete}
 use Rattle.rox_theory.proofs.CharLemmas.{space_some, some_run, begins_byte, space_ascii}

@@ -6,10 +6,9 @@ use Rattle.std.proofs.lemmas.List.{take-take, drop-take, drop-drop, get_or-take}
 use Rattle.std.proofs.lemmas.Grind.{common_steps}
 use Rattle.rox_grammar.specs.FixedTexts.{word_text, double_dash}
 use Rattle.rox_grammar.specs.declared.fault.Word.TheVariants as word
-use Rattle.rox_grammar.specs.Search.{stands, before_mark, mark_from, byte_from}
+use Rattle.rox_grammar.specs.Search.{stands, before_mark, mark_from, byte_from, has_mark}
 use Rattle.rox_grammar.specs.Names.{byte, slice}
-use Rattle.rox_reading.specs.Lexical.{has_mark}
-use Rattle.rox_reading.proofs.Stretches.{range_length}
+use Rattle.rox_grammar.proofs.Stretches.{range_length}
 use Rattle.rox_theory.proofs.Productions.{two_dashes_begin}
 use Rattle.rox_theory.proofs.DeclarationLemmas.{stands_reads, stands_fits}
 use Rattle.rox_theory.proofs.Places.{stands_two}

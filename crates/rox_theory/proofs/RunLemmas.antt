@@ -17,7 +17,7 @@ use Rattle.rox_reading.specs.Values.{Next, at_end, opening, data_part, part_text
 use Rattle.rox_reading.specs.State.{State}
 use Rattle.rox_reading.specs.Machine.{Context, with_item, with_piece, at_place, after_part, data_parts, character_data_step}
 use Rattle.rox_reading.proofs.Forests.{join-nil, join_assoc}
-use Rattle.rox_reading.proofs.Stretches.{range_length}
+use Rattle.rox_grammar.proofs.Stretches.{range_length}
 use Rattle.rox_theory.specs.Openers.{IsStop}
 use Rattle.rox_theory.proofs.Productions.{char_data_parts}
 use Rattle.rox_theory.proofs.Basics.{ok_same, bind_ok, bind_lifted, bind_lifted_only, chosen, chars_sound, chars_complete}

@@ -14,7 +14,7 @@ use Rattle.rox_grammar.specs.Entities.{Replacement, Entity, text_of}
 use Rattle.rox_reading.specs.Lexical.{chars_up_to}
 use Rattle.rox_reading.specs.Refusals.{Refusal}
 use Rattle.rox_reading.specs.Values.{Reference, character_of, entity_at, reference_at, Bit, bytes_of, opens, entity_bit, reference_bit, ReadText, is_special, tested_bit, value_reference_at, stretch_at, value_bit_at, ValueInclusion, after_value_bit, value_text, value_at}
-use Rattle.rox_reading.proofs.Stretches.{special_ascii}
+use Rattle.rox_reading.proofs.ByteReads.{special_ascii}
 use Rattle.rox_theory.specs.Openers.{IsStop, AgreesValue}
 use Rattle.rox_theory.proofs.Basics.{ok_same, bind_ok, bind_lifted, chosen, chars_sound, chars_complete}
 use Rattle.rox_theory.proofs.NameLemmas.{slice_nil}

@@ -13,11 +13,13 @@ use Rattle.rox_grammar.specs.declared.fault.Fault.{Fault}
 use Rattle.rox_grammar.specs.declared.fault.Fault.TheVariants.{InvalidAttributeValue}
 use Rattle.rox_grammar.specs.Constructs.{AreChars}
 use Rattle.rox_grammar.specs.Entities.{Entity}
-use Rattle.rox_reading.proofs.Stretches.{range_parts, special_ascii}
+use Rattle.rox_grammar.proofs.Stretches.{range_parts}
+use Rattle.rox_reading.proofs.ByteReads.{special_ascii}
 use Rattle.rox_reading.specs.Lexical.{chars_up_to}
 use Rattle.rox_reading.specs.Values.{ValueInclusion, character_of, is_special, bytes_of, reference_at, stretch_at, value_reference_at, value_bit_at, value_text}
 use Rattle.rox_scan.proofs.CharLemmas.{chars_all, all_chars}
-use Rattle.rox_bytes.proofs.NearLemmas.{near_found, stretch_plain, stretch_special}
+use Rattle.rox_scan.proofs.NearReads.{stretch_plain, stretch_special}
+use Rattle.rox_bytes.proofs.NearLemmas.{near_found}
 use Rattle.rox_bytes.specs.ByteSets.{AllPass, EndsSet, is_stretch_byte}
 use Rattle.rox_values.specs.Values.{behind, ends_stretch, is_inner_byte}
 use Rattle.rox_values.specs.PlainBits.{AreValueChars, GivesCharacter, IsRest, IsStretch, IsTested, PutsBit, PutsBits, PutsOne, kind_for, may_be}

@@ -7,7 +7,7 @@ use Rattle.std.proofs.lemmas.Bool.Decides.{nat_tests}
 use Rattle.std.proofs.lemmas.Grind.{fold-append}
 use Rattle.std.proofs.Math.Nat.{mul-le-mul_left, mul-le-mul_right}
 use Rattle.rox_grammar.specs.References.{bytes_end, number, digit_value}
-use Rattle.rox_reading.proofs.Stretches.{slice-more}
+use Rattle.rox_grammar.proofs.Stretches.{slice-more}
 
 pub bytes_on : (p : ℕ → Bool) (src : List ℕ) (i : ℕ) → i < length src → p (get_or src i 0) ≡ true → bytes_end p src (i + 1) ≡ bytes_end p src i
 unfolding bytes_end

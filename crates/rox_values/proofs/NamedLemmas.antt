@@ -8,7 +8,7 @@ use Rattle.std.proofs.lemmas.Str.{IsCharBoundary-after_ascii}
 use Rattle.rox_grammar.specs.Chars.{is_name_char, is_name_start, is_part_char}
 use Rattle.rox_grammar.specs.References.{predefined}
 use Rattle.rox_grammar.specs.Runs.{run_end, begins}
-use Rattle.rox_reading.proofs.Stretches.{range_length}
+use Rattle.rox_grammar.proofs.Stretches.{range_length}
 use Rattle.rox_reading.specs.Values.{character_of, name_reference_at}
 use Rattle.rox_bytes.specs.ByteSets.{AllPass, is_part_byte}
 use Rattle.rox_bytes.proofs.NearLemmas.{part_begins}

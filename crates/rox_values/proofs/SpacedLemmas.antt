@@ -7,7 +7,8 @@ use Rattle.std.proofs.lemmas.Bool.Decides.{nat_tests}
 use Rattle.std.proofs.lemmas.List.{drop_more, ext_get_or, get_or-set_other, get_or-set_same, get_or-take, length-map, length-set, length-take-le, map-append}
 use Rattle.std.proofs.lemmas.Str.{IsCharBoundary-after_ascii}
 use Rattle.rox_grammar.specs.Entities.{Entity}
-use Rattle.rox_reading.proofs.Stretches.{range_parts, special_ascii}
+use Rattle.rox_grammar.proofs.Stretches.{range_parts}
+use Rattle.rox_reading.proofs.ByteReads.{special_ascii}
 use Rattle.rox_reading.specs.Values.{ValueInclusion, bytes_of, is_special, value_bit_at, value_text}
 use Rattle.rox_bytes.specs.ByteSets.{AllPass, EndsSet, is_run_byte, is_stretch_byte}
 use Rattle.rox_values.specs.PlainBits.{AreValueChars, IsTested, spaced_byte}

@@ -17,7 +17,9 @@ use Rattle.rox_grammar.specs.Chars.{is_space, is_name_start, is_name_char, is_pa
 use Rattle.rox_bytes.specs.ByteSets.{AllPass, EndsSet, is_part_byte, is_value_byte}
 use Rattle.rox_scan.specs.Lookahead.{ends_value}
 use Rattle.rox_scan.proofs.LongerLemmas.{looked_on, looked_value, value_near}
-use Rattle.rox_bytes.proofs.NearLemmas.{byte_is, near_plain, short_value, value_cut, part_cut, part_stops, part_ascii, part_begins as letter_begins}
+use Rattle.rox_reading.proofs.ByteReads.{byte_is}
+use Rattle.rox_scan.proofs.NearReads.{short_value}
+use Rattle.rox_bytes.proofs.NearLemmas.{near_plain, value_cut, part_cut, part_stops, part_ascii, part_begins as letter_begins}
 use Rattle.rox_bytes.proofs.TableLemmas.{agree_below, agree_at}
 use Rattle.rox_grammar.specs.Runs.{begins, run_end}
 use Rattle.rox_bytes.proofs.RunLemmas.{begins_ascii, run_stops_ascii, space_on, space_stops, space_cut, stands_within}

@@ -18,7 +18,7 @@ use Rattle.rox_theory.proofs.OneParse.{one_plain_parse}
 use Rattle.rox_theory.proofs.Tops.{parse_merged}
 use Rattle.rox_theory.proofs.Whole.{seen_parse, doctype_seen, plain_refused, asks_nothing_there}
 use Rattle.rox_theory.proofs.ParseParts.{tree_parts, parts_tree}
-use Rattle.rox_prolog.specs.Requests.{AreAllowed}
+use Rattle.rox_build.specs.Requests.{AreAllowed}
 use Rattle.rox_build.specs.Built.{Built}
 use Rattle.rox_names.specs.Tables.{HoldsTree}
 use Rattle.rox_names.specs.declared.tables.Tables.{Tables}

@@ -4,7 +4,7 @@ use Rattle.rox_grammar.specs.Forest.{Forest, size}
 use Rattle.rox_grammar.specs.Tree.{Node}
 use Rattle.rox_grammar.specs.Written.{NamespaceDecl}
 use Rattle.rox_rows.specs.Rows.{numbered_place, KindWithin, node, attribute, attribute_rows, AttributeRow, node_rows}
-use Rattle.rox_reading.specs.AtIndex.{scope_at, namespace_at}
+use Rattle.rox_grammar.specs.AtIndex.{scope_at, namespace_at}
 use Rattle.rox_names.specs.Tables.{HoldsTree, names_of, scopes_of}
 use Rattle.rox_scopes.specs.Scopes.{places_in, ArePlaces}
 use Rattle.rox_rows.specs.declared.row.NodeKind.{NodeKind}

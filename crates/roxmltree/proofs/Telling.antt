@@ -21,7 +21,7 @@ use Rattle.rox_faults.proofs.FaultSpans.{names_here, names_there}
 use Rattle.rox_faults.proofs.FaultWhole.{reading_faults}
 use Rattle.rox_theory.proofs.Whole.{refused_has_none}
 use Rattle.rox_theory.proofs.ParseParts.{TreeParts, tree_parts}
-use Rattle.rox_prolog.specs.Requests.{AreAllowed}
+use Rattle.rox_build.specs.Requests.{AreAllowed}
 use Rattle.rox_error.specs.FaultErrors.{position_at, IsErrorOf}
 use Rattle.rox_error.specs.declared.error.Error.{Error}
 use Rattle.rox_error.specs.declared.error.Error.TheVariants as error

@@ -38,10 +38,10 @@ pub use Rattle.rox_reading.specs.WholeText as Reading
 pub use Rattle.rox_reading.specs.Refusals
 pub use Rattle.rox_reading.specs.Doctype as Replies
 pub use Rattle.rox_reading.specs.Stopping
-pub use Rattle.rox_prolog.specs.Requests
+pub use Rattle.rox_build.specs.Requests
 pub use Rattle.rox_error.specs.FaultErrors
 pub use Rattle.rox_error.specs.Messages
-pub use Rattle.rox_reading.specs.AtIndex
+pub use Rattle.rox_grammar.specs.AtIndex
 pub use Rattle.rox_rows.specs.Rows
 pub use Rattle.rox_storage.specs.Storage
 pub use Rattle.rox_scopes.specs.NamespaceViews

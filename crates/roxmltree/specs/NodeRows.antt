@@ -4,7 +4,7 @@ use Rattle.std.specs.Coded.{Coded, Coded-set, code_by, coded×, coded_ℕ, coded
 use Rattle.rox_grammar.specs.Forest.{Forest}
 use Rattle.rox_grammar.specs.Tree.{Node}
 use Rattle.rox_rows.specs.Rows.{RowView, NamespaceWithin, KindWithin}
-use Rattle.rox_reading.specs.AtIndex.{OptionWithin}
+use Rattle.rox_grammar.specs.AtIndex.{OptionWithin}
 use Rattle.rox_names.specs.Tables.{HoldsTree}
 use Rattle.rox_scopes.specs.ScopeRows.{IsRow, EndsWithin}
 use Rattle.rox_names.specs.declared.tables.Tables.{Tables}

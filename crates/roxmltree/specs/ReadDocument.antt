@@ -7,7 +7,7 @@ use Rattle.rox_grammar.specs.Tree.{document_tree}
 use Rattle.rox_reading.specs.Doctype.{Reply, replies_of, AreTextReplies}
 use Rattle.rox_reading.specs.WholeText.{reading}
 use Rattle.rox_reading.specs.HasDoctype.{has_doctype}
-use Rattle.rox_prolog.specs.Requests.{AreAllowed}
+use Rattle.rox_build.specs.Requests.{AreAllowed}
 use Rattle.rox_error.specs.FaultErrors.{position_at, IsErrorOf}
 use Rattle.rox_error.specs.declared.error.Error.{Error}
 use Rattle.rox_error.specs.declared.error.Error.TheVariants as error

@@ -1,6 +1,6 @@
 //! The options of the parser.
 
-use rox_prolog::resolver::NoResolver;
+use rox_build::NoResolver;
 use std::fmt;
 
 /// The options of the parser.

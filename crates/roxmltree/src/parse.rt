@@ -12,7 +12,7 @@ ghost use Rattle.rox_grammar.specs.Doctype.{Request, Asked};
 ghost use Rattle.rox_grammar.specs.Document.{IsTreeOf, Permits, HasAsked, AsksNext};
 ghost use Rattle.rox_reading.specs.Refusals.{here};
 ghost use Rattle.rox_reading.specs.WholeText.{reading};
-ghost use Rattle.rox_prolog.specs.Requests.{Allows, AreAllowed, MayAsk};
+ghost use Rattle.rox_build.specs.Requests.{Allows, AreAllowed, MayAsk};
 ghost use Rattle.rox_error.specs.FaultErrors.{position_at, IsErrorOf};
 ghost use Rattle.roxmltree.specs.TextErrors.{IsTextError};
 ghost use Rattle.roxmltree.specs.FirstError.{IsFirst};
@@ -20,12 +20,12 @@ ghost use Rattle.roxmltree.specs.ReadDocument.{IsReadDocument, IsErrorOfReason};
 
 use crate::options::ParsingOptions;
 use crate::tree::Document;
+use rox_build::EntityResolver;
 use rox_build::reader::{build, first_tables};
 use rox_builder::builder::Builder;
 use rox_error::error::Error;
 use rox_error::from_fault::{error_of_fault, error_of_resolver};
 use rox_error::position::TextPos;
-use rox_prolog::resolver::EntityResolver;
 use rox_values::parse_error::ParseError;
 use std::alloc::Global;
 

@@ -1,7 +1,8 @@
 use Rattle.std.proofs.Common.{◌<◌, ◌∙◌, sym, arith, inl, inr, rules}
 use Rattle.std.proofs.lemmas.Grind.{common_steps}
 use Rattle.std.proofs.lemmas.Bool.{cases_lt}
-use Rattle.rox_bytes.proofs.NearLemmas.{stretch_special, value_cut}
+use Rattle.rox_scan.proofs.NearReads.{stretch_special}
+use Rattle.rox_bytes.proofs.NearLemmas.{value_cut}
 use Rattle.rox_values.proofs.BitLemmas.{from_start}
 use Rattle.rox_attributes.proofs.SpacedEnds.{ends_before, near_verbatim, no_tag, plain_looked, spaced_looked, value_goes_on}
 use Rattle.rox_attributes.proofs.any_value.value_ends.Goals as goal

@@ -1,7 +1,7 @@
 use Rattle.std.proofs.Common.{◌≡◌, length, slice_index, ap, sym, ◌∙◌, arith, rules, eqb-true}
 use Rattle.std.proofs.lemmas.Grind.{common_steps}
 use Rattle.rox_grammar.specs.Failures.{name_view}
-use Rattle.rox_reading.proofs.Stretches.{range_length}
+use Rattle.rox_grammar.proofs.Stretches.{range_length}
 use Rattle.rox_bytes.proofs.NearLemmas.{part_stops, part_cut}
 use Rattle.rox_verbatim.proofs.Verbatim.{ascii_begins, value_starts}
 use Rattle.rox_attributes.proofs.PlainAttributes.{some_filled}

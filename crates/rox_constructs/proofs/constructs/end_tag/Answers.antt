@@ -13,7 +13,7 @@ use Rattle.rox_names.specs.OpenElements.{HasName, IsOpenWithin, open_name}
 use Rattle.rox_names.specs.declared.open_element.OpenElement.{OpenElement}
 use Rattle.rox_grammar.specs.declared.fault.Span.{Span}
 use Rattle.rox_grammar.specs.declared.fault.Fault.TheVariants as fault
-use Rattle.rox_reading.proofs.Lists.{all_take}
+use Rattle.rox_grammar.proofs.Lists.{all_take}
 use Rattle.rox_names.specs.declared.tables.ElementTables.{ElementTables}
 use Rattle.rox_constructs.proofs.Opening.{all_last}
 use Rattle.rox_builder.proofs.Showing.{last_split}

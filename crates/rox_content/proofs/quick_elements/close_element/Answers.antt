@@ -4,7 +4,7 @@ use Rattle.std.proofs.lemmas.Bool.{lt-leb}
 use Rattle.std.proofs.lemmas.List.{take_rest}
 use Rattle.rox_reading.specs.Markup.{EndTag, end_tag_at}
 use Rattle.rox_reading.specs.State.{depth_of}
-use Rattle.rox_reading.proofs.Lists.{all_take}
+use Rattle.rox_grammar.proofs.Lists.{all_take}
 use Rattle.rox_names.specs.declared.tables.ElementTables.{ElementTables}
 use Rattle.rox_names.specs.declared.open_element.OpenElement.{OpenElement}
 use Rattle.rox_builder.specs.BuilderState.{IsConsistent}

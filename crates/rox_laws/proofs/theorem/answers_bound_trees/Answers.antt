@@ -3,7 +3,7 @@ use Rattle.std.specs.Prelude.{max}
 use Rattle.rox_grammar.specs.Forest.{Forest}
 use Rattle.rox_grammar.specs.Tree.{Node}
 use Rattle.rox_theory.proofs.ParseParts.{tree_parts}
-use Rattle.rox_prolog.specs.Requests.{Allows}
+use Rattle.roxmltree.specs.Requests.{Allows}
 use Rattle.rox_laws.specs.TreeSize.{IsTreeBounded}
 use Rattle.rox_laws.proofs.Bounded.{tree_short, allowed_short}
 use Rattle.rox_laws.proofs.theorem.answers_bound_trees.Goals as goal

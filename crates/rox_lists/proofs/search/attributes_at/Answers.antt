@@ -1,5 +1,5 @@
 use Rattle.std.proofs.Common.{length, arith}
-use Rattle.rox_reading.proofs.Lists.{all_slice}
+use Rattle.rox_grammar.proofs.Lists.{all_slice}
 use Rattle.rox_lists.proofs.AttributeRows.{stretch_rows, all_reach, all_placed}
 use Rattle.rox_lists.proofs.search.attributes_at.Goals as goal
 

@@ -1,6 +1,7 @@
 use Rattle.std.proofs.Common.{◌≡◌, ◌+◌, length, refl, sym, ap, ◌∙◌, arith, slice_index, eqb-true}
 use Rattle.rox_grammar.specs.FixedTexts.{word_text}
-use Rattle.rox_bytes.proofs.NearLemmas.{short_chars, value_cut}
+use Rattle.rox_scan.proofs.NearReads.{short_chars}
+use Rattle.rox_bytes.proofs.NearLemmas.{value_cut}
 use Rattle.rox_markup.proofs.PairLemmas.{word_is, pair_is}
 use Rattle.rox_markup.proofs.xml_decl.quick_pair.Goals as goal
 

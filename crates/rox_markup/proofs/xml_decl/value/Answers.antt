@@ -1,5 +1,6 @@
 use Rattle.std.proofs.Common.{sym, ◌∙◌, rules}
-use Rattle.rox_bytes.proofs.NearLemmas.{short_chars, value_cut}
+use Rattle.rox_scan.proofs.NearReads.{short_chars}
+use Rattle.rox_bytes.proofs.NearLemmas.{value_cut}
 use Rattle.rox_markup.proofs.xml_decl.value.Goals as goal
 
 pub returns-then-is_at : goal.returns-then-is_at

@@ -10,14 +10,14 @@ use Rattle.rox_grammar.specs.Document.{most_pairs}
 use Rattle.rox_grammar.specs.Counts.{with_new}
 use Rattle.rox_reading.specs.Tags.{declared}
 use Rattle.std.proofs.lemmas.Bool.{or_parts}
-use Rattle.rox_reading.specs.AtIndex.{namespace_at}
+use Rattle.rox_grammar.specs.AtIndex.{namespace_at}
 use Rattle.rox_scopes.specs.NamespaceViews.{namespace_view}
 use Rattle.rox_scopes.specs.Scopes.{entries, prefix_view, pair}
 use Rattle.rox_names.specs.TagDeclarations.{unresolved_view}
 use Rattle.rox_storage.specs.Storage.{storage_bytes}
 use Rattle.rox_scopes.specs.PrefixSet.{IsPrefixSet}
-use Rattle.rox_reading.proofs.Stretches.{slice-rest}
-use Rattle.rox_reading.proofs.Lists.{all_slice}
+use Rattle.rox_grammar.proofs.Stretches.{slice-rest}
+use Rattle.rox_grammar.proofs.Lists.{all_slice}
 use Rattle.rox_names.proofs.Declaring.{uri_refused, declared_again, declared_many, declares_prefix_xml, declares_other, own_listed, own_declares, fails_by, many_pairs, kept_after, lists_after, places_after, remembers_after, once_after}
 use Rattle.rox_names.proofs.namespace_decl.declare_namespace.Goals as goal
 

@@ -1,7 +1,7 @@
 use Rattle.std.proofs.Common.{length, map, drop, refl, subst, arith}
 use Rattle.std.proofs.lemmas.Bool.{not-true}
 use Rattle.rox_names.specs.declared.tables.ElementTables.{ElementTables}
-use Rattle.rox_reading.specs.AtIndex.{scope_at}
+use Rattle.rox_grammar.specs.AtIndex.{scope_at}
 use Rattle.rox_scopes.specs.ScopeRows.{lists_of}
 use Rattle.rox_scopes.specs.NamespaceViews.{namespace_view}
 use Rattle.rox_scopes.specs.Scopes.{entries, others, PrefixesOnce}

@@ -1,7 +1,7 @@
 use Rattle.std.proofs.Common.{◌≡◌, ◌<◌, length, get_or, true, false, map, sym, ap, ◌∙◌, arith, take_all}
 use Rattle.rox_grammar.specs.Tree.{same_prefix}
 use Rattle.rox_grammar.specs.Written.{NamespaceDecl}
-use Rattle.rox_reading.specs.AtIndex.{namespace_at}
+use Rattle.rox_grammar.specs.AtIndex.{namespace_at}
 use Rattle.rox_scopes.specs.ScopeRows.{count_at}
 use Rattle.rox_scopes.specs.NamespaceViews.{namespace_view}
 use Rattle.rox_scopes.specs.Scopes.{prefix_view, places_in}

@@ -1,5 +1,5 @@
 use Rattle.std.proofs.Common.{Option, None, length, sym, ◌∙◌, subst, rules}
-use Rattle.rox_reading.specs.AtIndex.{OptionWithin}
+use Rattle.rox_grammar.specs.AtIndex.{OptionWithin}
 use Rattle.rox_scopes.specs.Bindings.{LooksWithin, bound_namespace, places_view}
 use Rattle.rox_scopes.specs.declared.bindings.Binding.{Binding}
 use Rattle.rox_scopes.proofs.scope.find_default.Goals as goal

@@ -1,5 +1,5 @@
 use Rattle.std.proofs.Common.{Some, length, sym, subst, rules}
-use Rattle.rox_reading.specs.AtIndex.{OptionWithin}
+use Rattle.rox_grammar.specs.AtIndex.{OptionWithin}
 use Rattle.rox_scopes.specs.Bindings.{LooksWithin, places_view}
 use Rattle.rox_scopes.proofs.scope.find_prefix.Goals as goal
 

@@ -4,14 +4,14 @@ use Rattle.std.proofs.lemmas.List.{length-map}
 use Rattle.rox_grammar.specs.Tree.{attribute_in}
 use Rattle.rox_grammar.specs.Document.{most_attributes, most_pairs}
 use Rattle.rox_grammar.specs.Failures.{name_view}
-use Rattle.rox_reading.specs.AtIndex.{namespace_at, scope_at, OptionWithin}
+use Rattle.rox_grammar.specs.AtIndex.{namespace_at, scope_at, OptionWithin}
 use Rattle.rox_rows.specs.Rows.{attribute, NamespaceWithin, AttributeRow, attribute_rows}
 use Rattle.rox_scopes.specs.NamespaceViews.{namespace_view}
 use Rattle.rox_scopes.specs.Bindings.{places_view}
 use Rattle.rox_names.specs.TagDeclarations.{unresolved_view}
 use Rattle.rox_names.specs.TagScopes.{lists_in}
 use Rattle.rox_names.proofs.Finding.{looks_for, found_for, seen_by}
-use Rattle.rox_reading.proofs.AtIndex.{option_more}
+use Rattle.rox_grammar.proofs.AtIndex.{option_more}
 use Rattle.rox_starts.proofs.Starting.{tested_known}
 use Rattle.rox_starts.proofs.tag.element_data.Goals as goal
 

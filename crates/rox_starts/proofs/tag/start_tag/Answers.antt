@@ -10,7 +10,7 @@ use Rattle.rox_reading.specs.Lexical.{qname_at}
 use Rattle.rox_reading.specs.Tags.{TagSoFar, attributes_at, tag_tested}
 use Rattle.rox_grammar.specs.Failures.{Fails, name_view}
 use Rattle.rox_values.specs.DeclaredEntities.{values_in}
-use Rattle.rox_reading.specs.AtIndex.{scope_at}
+use Rattle.rox_grammar.specs.AtIndex.{scope_at}
 use Rattle.rox_rows.specs.Rows.{attribute_rows}
 use Rattle.rox_scopes.specs.ScopeRows.{AreScopes}
 use Rattle.rox_scopes.specs.NamespaceViews.{namespace_view}

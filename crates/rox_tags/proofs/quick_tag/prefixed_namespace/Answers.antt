@@ -1,7 +1,7 @@
 use Rattle.std.proofs.Common.{◌<◌, sym, ◌∙◌, length, map, Some, arith}
 use Rattle.rox_grammar.specs.Document.{most_pairs}
 use Rattle.rox_grammar.specs.Failures.{name_view}
-use Rattle.rox_reading.proofs.AtIndex.{option_more}
+use Rattle.rox_grammar.proofs.AtIndex.{option_more}
 use Rattle.rox_scopes.specs.NamespaceViews.{namespace_view}
 use Rattle.rox_names.specs.TagScopes.{scope_in_tables}
 use Rattle.rox_names.proofs.NameTests.{element_some}

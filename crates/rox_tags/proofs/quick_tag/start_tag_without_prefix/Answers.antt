@@ -3,7 +3,7 @@ use Rattle.rox_grammar.specs.Tree.{element_namespace}
 use Rattle.rox_grammar.specs.Written.{Name}
 use Rattle.rox_names.specs.TagScopes.{scope_in_tables}
 use Rattle.rox_rows.specs.Rows.{numbered_place}
-use Rattle.rox_reading.specs.AtIndex.{namespace_at}
+use Rattle.rox_grammar.specs.AtIndex.{namespace_at}
 use Rattle.rox_scopes.specs.NamespaceViews.{namespace_view}
 use Rattle.rox_names.specs.OpenElements.{open_name}
 use Rattle.rox_tags.proofs.WholeTags.{plain_tagged}

@@ -2,7 +2,7 @@ use Rattle.std.proofs.Common.{◌≡◌, ◌∙◌, ℕ, Bool, List, ap, subst, 
 use Rattle.rox_grammar.specs.Doctype.{Request}
 use Rattle.rox_reading.specs.Doctype.{Reply}
 use Rattle.rox_names.specs.declared.tables.Tables.{Tables}
-use Rattle.rox_prolog.specs.Requests.{Allows}
+use Rattle.rox_build.specs.Requests.{Allows}
 use Rattle.rox_build.specs.Built.{Built, BuiltRefusal}
 use Rattle.roxmltree.proofs.Parsed.{built_holds, built_document}
 use Rattle.roxmltree.proofs.Telling.{is_first}

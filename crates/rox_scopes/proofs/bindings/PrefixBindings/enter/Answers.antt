@@ -2,7 +2,7 @@ use Rattle.std.proofs.Common.{◌≡◌, ◌≤◌, ◌++◌, ◌∷◌, ◌&&�
 use Rattle.rox_grammar.specs.declared.fault.Word.TheVariants.{Xml}
 use Rattle.rox_grammar.specs.FixedTexts.{word_text}
 use Rattle.rox_grammar.specs.Tree.{is_xml}
-use Rattle.rox_reading.specs.AtIndex.{scope_at}
+use Rattle.rox_grammar.specs.AtIndex.{scope_at}
 use Rattle.rox_scopes.specs.NamespaceViews.{namespace_view}
 use Rattle.rox_scopes.specs.Scopes.{entries}
 use Rattle.rox_scopes.specs.Bindings.{bound_place, IsBound}

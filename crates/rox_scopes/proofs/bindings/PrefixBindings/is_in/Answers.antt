@@ -1,5 +1,5 @@
 use Rattle.std.proofs.Common.{rules, ℕ, ◌≡◌, ◌++◌, ◌∷◌, ◌-◌, ◌≢◌, [], length, take, sym, subst, ap, ◌∙◌, arith, eqb-true, ne_eqb}
-use Rattle.rox_reading.specs.AtIndex.{scope_at}
+use Rattle.rox_grammar.specs.AtIndex.{scope_at}
 use Rattle.rox_scopes.specs.Bindings.{bound_place, IsBound, Stacked, is_innermost}
 use Rattle.rox_scopes.proofs.Presenting.{stacked_last, last_split, innermost_at, innermost_not}
 use Rattle.rox_scopes.proofs.bindings.PrefixBindings.is_in.Goals as goal

@@ -1,5 +1,5 @@
 use Rattle.std.proofs.Common.{rules, ◌≡◌, ◌≤◌, ◌<◌, ◌++◌, ◌∷◌, ◌∙◌, [], map, length, subst, sym, refl, arith}
-use Rattle.rox_reading.specs.AtIndex.{scope_at}
+use Rattle.rox_grammar.specs.AtIndex.{scope_at}
 use Rattle.rox_scopes.specs.ScopeRows.{lists_of}
 use Rattle.rox_scopes.specs.NamespaceViews.{namespace_view}
 use Rattle.rox_scopes.specs.Scopes.{places_in}

@@ -1,5 +1,5 @@
 use Rattle.std.proofs.Common.{◌≡◌, ◌<◌, ℕ, Option, Some, ap, arith, subst, ◌∙◌, sym}
-use Rattle.rox_reading.specs.AtIndex.{OptionWithin}
+use Rattle.rox_grammar.specs.AtIndex.{OptionWithin}
 use Rattle.roxmltree.proofs.Parts.{row_namespace, row_no_namespace, element_within}
 use Rattle.rox_lists.proofs.Entries.{entry_uri}
 use Rattle.rox_rows.specs.StoredNodes.{kind_of}

@@ -6,7 +6,7 @@ use Rattle.rox_grammar.specs.Forest.{Forest}
 use Rattle.rox_grammar.specs.Tree as grammar
 use Rattle.rox_grammar.specs.Doctype.{Request, Asked}
 use Rattle.rox_grammar.specs.Document.{IsTreeOf, Permits, HasAsked, AsksNext}
-use Rattle.rox_prolog.specs.Requests.{Allows, AreAllowed}
+use Rattle.rox_build.specs.Requests.{Allows, AreAllowed}
 use Rattle.rox_error.specs.FaultErrors.{position_at}
 use Rattle.rox_error.specs.declared.position.TextPos.{TextPos}
 use Rattle.rox_error.specs.declared.error.Error.{Error}

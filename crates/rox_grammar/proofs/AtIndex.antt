@@ -1,7 +1,7 @@
 -- What is at an index stays as the table grows.
 use Rattle.std.proofs.Common.{◌≡◌, ℕ, zero, suc, ◌<◌, ◌≤◌, List, [], ◌∷◌, ◌++◌, length, refl, arith, Option}
 use Rattle.rox_grammar.specs.Written.{NamespaceDecl}
-use Rattle.rox_reading.specs.AtIndex.{namespace_at, scope_at, OptionWithin}
+use Rattle.rox_grammar.specs.AtIndex.{namespace_at, scope_at, OptionWithin}
 
 pub namespace_at-append : (namespaces more : List NamespaceDecl) (i : ℕ) → i < length namespaces → namespace_at (namespaces ++ more) i ≡ namespace_at namespaces i
 namespace_at-append [] more i h = absurd (omega arith)

@@ -4,7 +4,6 @@ use Rattle.std.proofs.Math.Seq.{take-append-add}
 use Rattle.std.proofs.lemmas.List.{length-take, get_or-drop, take_more, take_all, take-append-le, drop-append-le}
 use Rattle.std.proofs.lemmas.List.Folds.{drop_split}
 use Rattle.std.proofs.lemmas.Bool.Decides.{nat_tests}
-use Rattle.rox_reading.specs.Values.{is_special}
 
 -- How long a stretch is.
 pub range_length : (src : List ℕ) (i j : ℕ) → i ≤ j → j ≤ length src → length (slice_range src i j) ≡ j - i
@@ -37,7 +36,3 @@ slice-append xs ys i j ordered within =
     long xs zero j ordered within = omega arith
     long [] (suc i) j ordered within = omega arith
     long (x ∷ xs) (suc i) j ordered within = let k = long xs i (j - 1) (omega arith) (omega arith) in omega arith
-
--- A byte that ends a stretch of a value is ASCII.
-pub special_ascii : (b : ℕ) → is_special b ≡ true → b < 128
-special_ascii b h = grind (arith, nat_tests)
