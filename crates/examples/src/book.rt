@@ -1,5 +1,23 @@
 //! Prints the contents of a book, whose chapters are external entities, in files beside it: the number of each chapter, its title,
 //! and how many words it has.
+//!
+//! Of the book in the folder `data`, which begins with
+//!
+//! ```text
+//! <!DOCTYPE book [
+//!   <!ENTITY first SYSTEM "first.xml">
+//!   <!ENTITY second SYSTEM "second.xml">
+//! ]>
+//! <book>
+//! ```
+//!
+//! it prints
+//!
+//! ```text
+//! 1. What a tree is (14 words)
+//! 2. What a node is (8 words)
+//! 3. Written here (8 words)
+//! ```
 
 use crate::chapters::{Chapter, asked_for, faulty_chapter, parse_book};
 use anyhow::{Context, Result, bail};
@@ -49,6 +67,7 @@ fn read_chapters(rt: &HostRuntime, book: Path<'_>, names: &[String]) -> Result<V
     Ok(chapters)
 }
 
+/// Prints the line of each chapter.
 fn print_contents<W: Write>(alloc: Global, document: &Document<'_>, out: &mut W) -> Result<()> {
     let steps = parse_path(alloc, "//chapter")?;
     let chapters = select(alloc, document.root(), &steps)?;
@@ -58,6 +77,7 @@ fn print_contents<W: Write>(alloc: Global, document: &Document<'_>, out: &mut W)
     Ok(())
 }
 
+/// Prints the line of a chapter.
 fn print_chapter<W: Write>(
     chapter: &Node<'_, '_>,
     alloc: Global,

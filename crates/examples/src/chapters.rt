@@ -29,6 +29,7 @@ pub fn asked_for(alloc: Global, book: &str) -> Result<Vec<String>, AllocError> {
     }
 }
 
+/// Adds the identifier to those that were asked for.
 fn note(alloc: Global, asked: &RefCell<Vec<String>>, uri: &str) -> Result<(), AllocError> {
     let uri = String::from_str(alloc, uri)?;
     if let Ok(mut asked) = asked.try_borrow_mut() {
@@ -49,6 +50,7 @@ pub fn parse_book<'input>(
     Document::parse_with_options(alloc, book, options)
 }
 
+/// Returns the text of the chapter in this file, or no text if there is none.
 fn text_of<'c>(chapters: &'c [Chapter], name: &str) -> &'c str {
     for chapter in chapters {
         if chapter.name.as_str() == name {
@@ -72,6 +74,7 @@ pub fn faulty_chapter<'c>(alloc: Global, book: &str, chapters: &'c [Chapter]) ->
     None
 }
 
+/// Returns whether the book with these chapters is refused.
 fn is_refused(alloc: Global, book: &str, chapters: &[Chapter]) -> bool {
     parse_book(alloc, book, chapters).is_err()
 }

@@ -1,5 +1,24 @@
 //! Prints the dependencies of a Maven project: the group, the name, the version and the scope of each. Properties, as in
 //! `${junit.version}`, are replaced by their values.
+//!
+//! Of this project
+//!
+//! ```text
+//! <project>
+//!   <properties><v>1.7</v></properties>
+//!   <dependencies>
+//!     <dependency><groupId>org.slf4j</groupId><artifactId>slf4j-api</artifactId><version>${v}</version></dependency>
+//!     <dependency><artifactId>tools</artifactId><scope>test</scope></dependency>
+//!   </dependencies>
+//! </project>
+//! ```
+//!
+//! it prints
+//!
+//! ```text
+//! org.slf4j:slf4j-api:1.7 compile
+//! -:tools:- test
+//! ```
 
 use anyhow::{Context, Result};
 use roxmltree::{Document, Node};
@@ -22,6 +41,7 @@ pub fn run(rt: &HostRuntime, file: &str) -> Result<()> {
     print_dependencies(&document.root_element(), rt.alloc(), &mut rt.stdout())
 }
 
+/// Prints what is in the element `dependencies` of a project, if it has one.
 fn print_dependencies<W: Write>(project: &Node<'_, '_>, alloc: Global, out: &mut W) -> Result<()> {
     match child(project, "dependencies") {
         Some(dependencies) => print_each(&dependencies, alloc, project, out),
@@ -29,6 +49,7 @@ fn print_dependencies<W: Write>(project: &Node<'_, '_>, alloc: Global, out: &mut
     }
 }
 
+/// Prints each child element `dependency`.
 fn print_each<W: Write>(
     dependencies: &Node<'_, '_>,
     alloc: Global,
@@ -43,6 +64,7 @@ fn print_each<W: Write>(
     Ok(())
 }
 
+/// Prints the line of a dependency.
 fn print_dependency<W: Write>(
     dependency: &Node<'_, '_>,
     alloc: Global,

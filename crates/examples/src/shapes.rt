@@ -1,5 +1,23 @@
 //! Prints the shapes of an SVG image: the row and the column where each starts, its kind, its fill, and what it refers to, if it
 //! refers to anything.
+//!
+//! Of this image
+//!
+//! ```text
+//! <svg xmlns="http://www.w3.org/2000/svg" fill="red">
+//!   <g fill="green"><circle r="4"/></g>
+//!   <path style="stroke: none; fill: #6a0"/>
+//!   <use href="#a"/>
+//! </svg>
+//! ```
+//!
+//! it prints
+//!
+//! ```text
+//! 2:19 circle fill=green
+//! 3:3 path fill=#6a0
+//! 4:3 use fill=red href=#a
+//! ```
 
 use anyhow::{Context, Result};
 use roxmltree::{Document, Node};
@@ -36,6 +54,7 @@ fn print_shapes<W: Write>(document: &Document<'_>, out: &mut W) -> io::Result<()
     Ok(())
 }
 
+/// Prints the line of a shape.
 fn print_shape<W: Write>(shape: &Node<'_, '_>, out: &mut W) -> io::Result<()> {
     let place = shape.document().text_pos_at(shape.range().start);
     let kind = shape.tag_name().name();
@@ -47,6 +66,7 @@ fn print_shape<W: Write>(shape: &Node<'_, '_>, out: &mut W) -> io::Result<()> {
     writeln!(out)
 }
 
+/// Returns whether a node is a shape: an element in the namespace of SVG with one of these local names.
 fn is_shape(node: &Node<'_, '_>) -> bool {
     let name = node.tag_name();
     name.namespace() == Some(SVG) && SHAPES.contains(&name.name())

@@ -11,7 +11,7 @@ use Rattle.rox_values.specs.Refusals.{IsRefusal}
 use Rattle.rox_values.specs.declared.parse_error.ParseError.{ParseError}
 use Rattle.rox_values.proofs.PartLemmas.{refuses_by}
 use Rattle.rox_builder.specs.BuilderState.{IsInState, ParsesTo}
-use Rattle.rox_starts.proofs.Moving.{step_moves}
+use Rattle.rox_constructs.proofs.Moving.{step_moves}
 use Rattle.rox_builder.specs.declared.builder.Builder.{Builder}
 use Rattle.rox_sections.specs.PlainSteps.{Steps, no_step, one_more, Reads}
 

@@ -1,4 +1,3 @@
-pub mod RootTags
 pub mod RootElements
 pub mod SameBytes
 pub mod Closing

@@ -19,7 +19,7 @@ use Rattle.rox_names.specs.declared.tables.ElementTables.{ElementTables}
 use Rattle.rox_names.specs.declared.open_element.OpenElement.{OpenElement}
 use Rattle.rox_names.proofs.SameNames.{opened_named}
 use Rattle.rox_names.proofs.SpelledNames.{tag_is_named}
-use Rattle.rox_starts.specs.ElementRow.{Tagged}
+use Rattle.rox_tags.specs.ElementRow.{Tagged}
 use Rattle.rox_verbatim.specs.PlainNames.{EndsNear}
 use Rattle.rox_rows.specs.Rows.{attribute_rows}
 use Rattle.rox_tags.specs.PlainTag.{HoldSame, IsPlainTag, MayOpenAt, ReadsTag}

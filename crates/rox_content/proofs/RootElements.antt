@@ -9,7 +9,7 @@ use Rattle.rox_rows.specs.Rows.{AttributeRow, NamespaceWithin, attribute_rows}
 use Rattle.rox_grammar.specs.AtIndex.{scope_at}
 use Rattle.rox_names.specs.declared.tables.ElementTables.{ElementTables}
 use Rattle.rox_builder.specs.BuilderState.{Grown, IsConsistent, IsInState, last_row, open_lines, opened_in}
-use Rattle.rox_content.specs.RootTag.{HoldAlike}
+use Rattle.rox_tags.specs.RootTag.{HoldAlike}
 use Rattle.rox_builder.specs.declared.builder.Builder.{Builder}
 use Rattle.rox_names.specs.declared.open_element.OpenElement.{OpenElement}
 use Rattle.rox_builder.proofs.Growing.{grown_shows}

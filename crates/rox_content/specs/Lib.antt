@@ -1,2 +1,2 @@
 pub mod PlainElements
-pub mod RootTag
+pub mod RootElement

@@ -3,3 +3,4 @@ pub mod TagAttributes
 pub mod OwnNames
 pub mod WholeTags
 pub mod Repeating
+pub mod RootTags

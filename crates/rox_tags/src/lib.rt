@@ -4,3 +4,4 @@
 pub mod own_declaration;
 pub mod quick_tag;
 pub mod repeated_declaration;
+pub mod root_tag;

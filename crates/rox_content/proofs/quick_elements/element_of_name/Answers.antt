@@ -3,7 +3,7 @@ use Rattle.rox_grammar.specs.Written.{NamespaceDecl}
 use Rattle.rox_grammar.specs.State.{scope_of}
 use Rattle.rox_reading.specs.Machine.{opened_by, cut_off_fault}
 use Rattle.rox_reading.specs.Refusals.{lifted}
-use Rattle.rox_starts.specs.ElementRow.{Tagged}
+use Rattle.rox_tags.specs.ElementRow.{Tagged}
 use Rattle.rox_builder.specs.BuilderState.{opened_in}
 use Rattle.rox_content.proofs.Closing.{below_last}
 use Rattle.rox_builder.proofs.Showing.{innermost_row}

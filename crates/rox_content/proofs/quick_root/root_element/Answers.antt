@@ -1,5 +1,5 @@
 use Rattle.std.proofs.Common.{◌≡◌, [], length, refl, sym, ap, ◌∙◌, arith}
-use Rattle.rox_content.specs.RootTag.{HoldAlike, IsReadFirst}
+use Rattle.rox_tags.specs.RootTag.{HoldAlike, IsReadFirst}
 use Rattle.rox_content.proofs.RootElements.{alike_fine, alike_state, at_root, lists_nothing, not_err}
 use Rattle.rox_scan.specs.declared.cursor.Cursor.{Cursor}
 use Rattle.rox_tags.specs.declared.quick_tag.PlainTag.{PlainTag}

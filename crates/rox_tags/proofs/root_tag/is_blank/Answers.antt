@@ -1,6 +1,6 @@
 use Rattle.std.proofs.Common.{length, ap, arith}
-use Rattle.rox_content.proofs.RootTags.{blank}
-use Rattle.rox_content.proofs.quick_root.is_blank.Goals as goal
+use Rattle.rox_tags.proofs.RootTags.{blank}
+use Rattle.rox_tags.proofs.root_tag.is_blank.Goals as goal
 
 pub returns : goal.returns
 returns c = λ one.

@@ -1,20 +1,13 @@
 -- The start tag of a root element that the fast path reads, with its declarations.
-use Rattle.std.specs.Prelude.{◌≡◌, ◌≢◌, ℕ, ◌<◌, ◌^◌, List, [], ◌∷◌, ◌++◌, Option, Some, None, length, map, IfSome, Ok, OnOk, Result}
-use Rattle.rox_reading.specs.Machine as machine
-use Rattle.rox_reading.specs.State.{State}
+use Rattle.std.specs.Prelude.{◌≡◌, ℕ, ◌<◌, ◌^◌, List, [], ◌∷◌, ◌++◌, Option, Some, None, length, map, IfSome, OnOk, Result}
 use Rattle.rox_rows.specs.Rows.{AttributeRow, attribute_rows}
 use Rattle.rox_scopes.specs.NamespaceViews.{namespace_view}
 use Rattle.rox_names.specs.TagScopes.{lists_in}
 use Rattle.rox_names.specs.declared.tables.ElementTables.{ElementTables}
-use Rattle.rox_scan.specs.declared.cursor.Cursor.{Cursor}
 use Rattle.rox_tags.specs.PlainTag.{IsPlainTag}
 use Rattle.rox_tags.specs.TagAttributes.{AreNoBindings, first_places}
 use Rattle.rox_starts.specs.TagReadiness.{MayReadBelow}
 use Rattle.rox_tags.specs.declared.quick_tag.PlainTag.{PlainTag}
-use Rattle.rox_builder.specs.BuilderState.{GoesOn, IsInState, ScansTo}
-use Rattle.rox_builder.specs.declared.builder.Builder.{Builder}
-use Rattle.rox_content.specs.declared.quick_root.RootLook.{RootLook}
-use Rattle.rox_content.specs.declared.quick_root.RootLook.TheVariants as look
 
 -- Nothing is declared, and the only scope is that of the root node.
 pub record IsBlank (t : ElementTables) : Type 0 where
@@ -62,11 +55,3 @@ pub record BeginsScopes {E : Type 0} (old new : ElementTables) (result : Result 
 pub record BeginsOwn {E : Type 0} (old new : ElementTables) (result : Result (Unit {0}) E) : Type 0 where
   pub scopes : OnOk result (new.scopes.items ≡ first_places 0 ∷ first_places 0 ∷ [])
   pub others : new ≡ record old { scopes = new.scopes }
-
--- The start tag of the root element was read; or nothing was, and the builder represents what it did; or memory was refused.
-pub record ReadsRootElement (old new : Cursor) (b after : Builder) (result : RootLook) : Type 0 where
-  pub value : result ≡ look.Read → (context : machine.Context) (end : ℕ) (s : State) → IsInState context.limit end s old b
-      → ScansTo context.limit end (Ok tt) new after (machine.tag_step context old.text.now s)
-  pub same : result ≡ look.NotRead → new ≡ old
-  pub other : result ≡ look.NotRead → (limit end : ℕ) (s : State) → IsInState limit end s old b → IsInState limit end s old after
-  pub goes : result ≢ look.Lacking → GoesOn old new after

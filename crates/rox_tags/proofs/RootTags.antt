@@ -27,7 +27,7 @@ use Rattle.rox_tags.specs.TagAttributes.{AreNoBindings, ArePlainAttributes, HasR
 use Rattle.rox_tags.specs.declared.own_declaration.TagScope.{TagScope}
 use Rattle.rox_starts.proofs.Starting.{tag_made, tested_known, tested_passes}
 use Rattle.rox_tags.proofs.TagAttributes.{has_scope, plain_count, root_scopes, scope_declares, slice_whole}
-use Rattle.rox_content.specs.RootTag.{IsBlank}
+use Rattle.rox_tags.specs.RootTag.{IsBlank}
 
 -- ---- the scope of a root element
 

@@ -4,8 +4,8 @@ use Rattle.rox_grammar.specs.FixedTexts.{word_text}
 use Rattle.rox_grammar.specs.Failures.{name_view}
 use Rattle.rox_reading.specs.Lexical.{qname_at}
 use Rattle.rox_tags.proofs.TagAttributes.{has_scope}
-use Rattle.rox_content.proofs.RootTags.{root_tagged}
-use Rattle.rox_content.proofs.quick_root.root_tag.Goals as goal
+use Rattle.rox_tags.proofs.RootTags.{root_tagged}
+use Rattle.rox_tags.proofs.root_tag.root_tag.Goals as goal
 
 pub tag_attributes-requires : goal.tag_attributes-requires
 tag_attributes-requires c = record { cut = c.in_ok-name.ensures.cut; short = c.requires.short; begins = (c.requires.begins, refl) }
