@@ -15,11 +15,11 @@ use rox_compare::compare::same_text;
 use rox_grammar::failure::Failure;
 use rox_grammar::fault::{Fault, Span};
 use rox_grammar::name::QName;
+use rox_growth::growth::push_with_room;
 use rox_scopes::namespace::Namespace;
 use rox_scopes::namespace_table::{FIRST_ROOM, Key, NamespaceTable};
 use rox_scopes::prefix_set::{FEW, add_prefix};
 use rox_scopes::scope::{XML_URI, XMLNS_URI, is_own, is_xml, same_prefix};
-use rox_storage::growth::push_with_room;
 use std::alloc::AllocError;
 use std::collections::BTreeSet;
 

@@ -8,7 +8,7 @@ ghost use Rattle.rox_rows.specs.CompactPlaces.{IsCompact};
 
 use crate::row::{AttributeData, AttributePlaces};
 use crate::stored_attribute::{EXPLICIT, StoredAttribute, compact_before};
-use rox_storage::growth::{make_room, push, reserve, trim, with_room};
+use rox_growth::growth::{make_room, push, reserve, trim, with_room};
 use rox_storage::storage::{StringStorage, is_owned};
 use std::alloc::{AllocError, Global};
 use std::mem::ManuallyDrop;

@@ -15,7 +15,7 @@ use crate::stored_node::{
     FIRST_HIGH, HighPlaces, KindRef, RowRef, StoredKind, StoredNode, high_half, kind_ref, low_half,
     owns_text, put_kind, small_kind, store_kind, whole_place,
 };
-use rox_storage::growth::{self, first_room, trim};
+use rox_growth::growth::{self, first_room, trim};
 use std::alloc::{AllocError, Global};
 
 /// The nodes of a text, in document order. What few nodes have is stored beside the rows, so that these are small. That is

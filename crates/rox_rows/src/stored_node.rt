@@ -9,7 +9,7 @@ ghost use Rattle.rox_rows.specs.declared.stored_node.HighPlaces.{HighPlaces};
 ghost use Rattle.rox_rows.specs.declared.stored_node.StoredNode.{StoredNode};
 
 use crate::row::{ElementData, NodeKind, PI};
-use rox_storage::growth::push;
+use rox_growth::growth::push;
 use rox_storage::storage::StringStorage;
 use std::alloc::AllocError;
 use std::mem::ManuallyDrop;

@@ -12,7 +12,7 @@ ghost use Rattle.rox_scopes.specs.Ropes.{IsScopeOf};
 use crate::namespace::Namespace;
 use crate::rope::{count, position_at};
 use crate::stored_scope::{OwnDeclarations, Scope};
-use rox_storage::growth::push;
+use rox_growth::growth::push;
 use std::alloc::{AllocError, Global};
 use std::collections::BTreeMap;
 

@@ -15,7 +15,7 @@ use crate::scope::same_prefix;
 use rox_compare::compare::same_text;
 use rox_grammar::failure::Failure;
 use rox_grammar::fault::Fault;
-use rox_storage::growth::push_with_room;
+use rox_growth::growth::push_with_room;
 use rox_storage::storage::StringStorage;
 use std::alloc::{AllocError, Global};
 use std::cmp::Ordering;

@@ -7,7 +7,7 @@ ghost use Rattle.rox_scopes.specs.Scopes.{places_in, ArePlaces};
 ghost use Rattle.rox_scopes.specs.Ropes.{AddsRow, AreJoinable, IsAmongScope, IsAmongStretch, IsPositionOf, IsRope, IsRow, Joins};
 
 use crate::stored_scope::{Concat, Scope, Stretch};
-use rox_storage::growth::push;
+use rox_growth::growth::push;
 use std::alloc::AllocError;
 
 /// The most scopes that the table holds: the index of each fits in a `u32`.

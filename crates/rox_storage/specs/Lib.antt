@@ -1,2 +1,1 @@
 pub mod Storage
-pub mod Growth

@@ -1,5 +1,4 @@
-//! The texts that a tree stores, which are slices of the input or owned, and the growth of tables.
+//! The texts that a tree stores, which are slices of the input or owned.
 #![tactic(auto)]
 
-pub mod growth;
 pub mod storage;

@@ -9,6 +9,7 @@ use crate::quick_tag::{PlainTag, namespace_in_scope, tag_attributes};
 use rox_bytes::byte_set::part_end;
 use rox_bytes::runs::after_byte;
 use rox_compare::compare::same_text;
+use rox_growth::growth::push;
 use rox_names::start_tag::StartTag;
 use rox_names::tables::ElementTables;
 use rox_scopes::bindings::PrefixBindings;
@@ -16,7 +17,6 @@ use rox_scopes::namespace_table::NamespaceTable;
 use rox_scopes::stored_scope::{Scope, Stretch};
 use rox_seen::seen_names::SeenNames;
 use rox_starts::tag::element_of;
-use rox_storage::growth::push;
 use rox_verbatim::quick_name::name_of_part;
 use std::alloc::AllocError;
 

@@ -2,8 +2,8 @@
 //! large growth is refused, a smaller one is tried.
 
 ghost use Rattle.std.specs.Prelude.{is_ok, IfOk};
-ghost use Rattle.rox_storage.specs.Growth as growth;
-ghost use Rattle.rox_storage.specs.Growth.{Pushes};
+ghost use Rattle.rox_growth.specs.Growth as growth;
+ghost use Rattle.rox_growth.specs.Growth.{Pushes};
 
 use std::alloc::{AllocError, Global};
 

@@ -1,0 +1,4 @@
+//! The growth of tables.
+#![tactic(auto)]
+
+pub mod growth;
