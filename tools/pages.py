@@ -141,7 +141,8 @@ def exports(crate):
                 names[name.strip()] = crate if home == "crate" else home
     for name, path, _ in ALIAS.findall(text):
         names[name] = path.split("::")[0]
-    return names
+    # a crate in between may pass the name on
+    return {name: home if home == crate else exports(home).get(name, home) for name, home in names.items()}
 
 
 def examples(comment):

@@ -3,6 +3,7 @@
 
 pub mod attributes;
 mod debug;
+pub mod layout;
 pub mod names;
 pub mod namespaces;
 pub mod scopes;
