@@ -6,24 +6,21 @@ ghost use Rattle.rox_reading.specs.Machine as machine;
 ghost use Rattle.rox_grammar.specs.Entities.{Entity};
 ghost use Rattle.rox_values.specs.Contexts.{context_of};
 ghost use Rattle.rox_builder.specs.BuilderState.{IsConsistent, HoldsState, ParsesToHeld};
-ghost use Rattle.rox_build.specs.OpenedTexts.{GivesPiece, JoinsWhole, OpensText, ReadsPart, ReadsText};
+ghost use Rattle.rox_build.specs.OpenedTexts.{JoinsWhole, OpensText, ReadsText};
 ghost use Rattle.rox_builder.specs.Outcomes.{MayStep, ParsesAs};
 ghost use Rattle.rox_builder.specs.Readiness.{MayReadTo};
 
 use rox_builder::builder::Builder;
 use rox_constructs::constructs::{end_tag, markup};
+use rox_constructs::data_parts::{part_piece, text_end};
 use rox_constructs::parsed::parsed;
 use rox_content::quick_content::{quick_constructs, quick_markup_of_text};
-use rox_grammar::failure::Failure;
 use rox_grammar::fault::Fault;
-use rox_names::start_tag::Buffers;
 use rox_scan::character_data::raw_character_data;
 use rox_scan::cursor::Cursor;
 use rox_scan::short_run::is_plain_to_end;
 use rox_sections::quick_sections::join_section;
-use rox_values::character_data::data_part;
 use rox_values::context::Context;
-use rox_values::line_ends::line_feeds;
 use rox_values::parse_error::ParseError;
 use rox_values::text_value::TextValue;
 use std::alloc::AllocError;
@@ -93,74 +90,6 @@ fn data_parts<'input>(
     }
     cursor.pos = stop;
     Ok(())
-}
-
-/// Reads a part of character data into the buffer for values, up to `stop` or a reference to an entity. Returns the replacement
-/// text of the entity.
-fn part<'input>(
-    cursor: &mut Cursor<'input>,
-    buffers: &mut Buffers<'input>,
-    context: Context<'_, 'input>,
-    stop: usize,
-) -> Result<Option<Cursor<'input>>, Failure>
-    requires { IsCharBoundary cursor.old.text.now stop }
-    ensures { ReadsPart context.entry stop cursor.old cursor.new (string_bytes buffers.new.scratch)
-        result }
-{
-    buffers.scratch.clear();
-    buffers.raw.clear();
-    let next = data_part(cursor, stop, context, &mut buffers.raw)?;
-    if context.main {
-        buffers.scratch.push_str(buffers.raw.as_str())?;
-    } else {
-        line_feeds(buffers.raw.as_str(), &mut buffers.scratch)?;
-    }
-    Ok(next)
-}
-
-/// Reads a part of the character data from `start` up to `stop`, and adds its piece if it has a character. The part ends at
-/// `stop` or at a reference to an entity, whose replacement text is returned.
-#[inline(never)]
-fn other_part_piece<'input>(
-    cursor: &mut Cursor<'input>,
-    builder: &mut Builder<'input>,
-    context: Context<'_, 'input>,
-    start: usize,
-    stop: usize,
-) -> Result<Option<Cursor<'input>>, Failure>
-    requires { MayReadTo stop cursor.old builder.old }
-    ensures { GivesPiece context.entry start stop cursor.old cursor.new builder.old builder.new
-        result }
-{
-    let next = part(cursor, &mut builder.buffers, context, stop)?;
-    if builder.buffers.scratch.is_empty() {
-        return Ok(next);
-    }
-    builder.piece(start, stop, TextValue::Changed)?;
-    Ok(next)
-}
-
-/// Like `other_part_piece`, but in the main text the part is appended to the waiting text, or starts one. This is not done if a
-/// text that has its row may continue.
-#[inline(always)]
-fn part_piece<'input>(
-    cursor: &mut Cursor<'input>,
-    builder: &mut Builder<'input>,
-    context: Context<'_, 'input>,
-    start: usize,
-    stop: usize,
-) -> Result<Option<Cursor<'input>>, Failure>
-    requires { MayReadTo stop cursor.old builder.old }
-    ensures { GivesPiece context.entry start stop cursor.old cursor.new builder.old builder.new
-        result }
-{
-    if context.main && !builder.is_written() {
-        let before = builder.begin_part();
-        let next = data_part(cursor, stop, context, &mut builder.joined.text)?;
-        builder.end_part(before, start, stop)?;
-        return Ok(next);
-    }
-    other_part_piece(cursor, builder, context, start, stop)
 }
 
 /// Joins a replacement text that is plain character data, named in the main text, to the text that may continue. If none may, the
@@ -259,22 +188,6 @@ fn content_text<'input>(
         step(&mut cursor, builder, context)?;
     }
     text_end(builder, context)
-}
-
-/// Checks the end of a replacement text: each element that it opened must be closed.
-fn text_end<'input>(
-    builder: &Builder<'input>,
-    context: Context<'_, 'input>,
-) -> Result<(), ParseError<'input>>
-    ensures { (limit end : ℕ) (es : List Entity) (s : State) → HoldsState limit end s builder.now
-        → ParsesToHeld limit end result builder.now
-        (machine.text_ends (context_of limit es context.entry) s) }
-{
-    if builder.opened.len() == context.open_around {
-        Ok(())
-    } else {
-        Err(ParseError::Fault(Fault::UnexpectedEndOfStream))
-    }
 }
 
 /// Reads one construct of content. It is out of line, so that its callers are small enough to be in line.

@@ -1,1 +1,2 @@
 pub mod ParsedResults
+pub mod DataPieces

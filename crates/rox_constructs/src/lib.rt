@@ -2,5 +2,6 @@
 #![tactic(auto)]
 
 pub mod constructs;
+pub mod data_parts;
 pub mod misc;
 pub mod parsed;

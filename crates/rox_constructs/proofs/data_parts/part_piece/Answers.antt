@@ -8,7 +8,7 @@ use Rattle.rox_builder.specs.PendingText.{text_before}
 use Rattle.rox_builder.specs.BuilderState.{Adds}
 use Rattle.rox_builder.proofs.Parting.{rests_of}
 use Rattle.rox_builder.proofs.Joining.{part_appended, part_piece_over}
-use Rattle.rox_build.proofs.content.part_piece.Goals as goal
+use Rattle.rox_constructs.proofs.data_parts.part_piece.Goals as goal
 
 pub returns-in_err-end_part : goal.returns-in_err-end_part
 returns-in_err-end_part c = record {

@@ -6,7 +6,7 @@ use Rattle.rox_values.specs.Contexts.{context_of}
 use Rattle.rox_values.specs.Values.{next_view}
 use Rattle.rox_builder.proofs.Stepping.{same_shows}
 use Rattle.rox_builder.proofs.Parting.{rests_of, text_rests, text_refused, part_piece_is, part_piece_fails}
-use Rattle.rox_build.proofs.content.other_part_piece.Goals as goal
+use Rattle.rox_constructs.proofs.data_parts.other_part_piece.Goals as goal
 
 pub returns-in_err-piece : goal.returns-in_err-piece
 returns-in_err-piece c = record {

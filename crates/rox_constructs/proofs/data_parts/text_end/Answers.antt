@@ -1,7 +1,7 @@
 use Rattle.std.proofs.Common.{arith}
 use Rattle.rox_values.specs.Contexts.{context_of}
 use Rattle.rox_builder.proofs.TextLooping.{opened_depth, text_closed, text_open}
-use Rattle.rox_build.proofs.content.text_end.Goals as goal
+use Rattle.rox_constructs.proofs.data_parts.text_end.Goals as goal
 
 pub returns-then-len-context : goal.returns-then-len-context
 returns-then-len-context c = λ limit end es s h.
