@@ -1,11 +1,8 @@
 //! Content: character data and replacement texts, one construct after another (XML 1.0 sections 2.4, 3.1, 4.3.2, 4.4.2).
 
-ghost use Rattle.std.specs.Prelude.{ℕ, List, length, IsCharBoundary, string_bytes};
-ghost use Rattle.rox_reading.specs.State.{State};
+ghost use Rattle.std.specs.Prelude.{length};
 ghost use Rattle.rox_reading.specs.Machine as machine;
-ghost use Rattle.rox_grammar.specs.Entities.{Entity};
-ghost use Rattle.rox_values.specs.Contexts.{context_of};
-ghost use Rattle.rox_builder.specs.BuilderState.{IsConsistent, HoldsState, ParsesToHeld};
+ghost use Rattle.rox_builder.specs.BuilderState.{IsConsistent};
 ghost use Rattle.rox_build.specs.OpenedTexts.{JoinsWhole, OpensText, ReadsText};
 ghost use Rattle.rox_builder.specs.Outcomes.{MayStep, ParsesAs};
 ghost use Rattle.rox_builder.specs.Readiness.{MayReadTo};

@@ -8,7 +8,7 @@ use Rattle.rox_grammar.specs.declared.fault.Fault.TheVariants.{InvalidName, NonX
 use Rattle.rox_grammar.specs.Chars.{is_space, is_name_start, is_name_char, is_part_char, is_char}
 use Rattle.rox_grammar.specs.Runs.{run_end, begins}
 use Rattle.rox_grammar.specs.ExpectedTexts.{expected_text}
-use Rattle.rox_grammar.specs.Search.{stands, before_mark, mark_from}
+use Rattle.rox_grammar.specs.Search.{stands, mark_from}
 use Rattle.rox_grammar.specs.Written.{Name}
 use Rattle.rox_grammar.specs.Names.{spaces_end}
 
