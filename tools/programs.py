@@ -269,16 +269,16 @@ def room_in(folder):
         shutil.rmtree(room, ignore_errors=True)
 
 
-def ended(who, work):
-    """Runs the work of a command, and ends with its status: 3, with a line that says why, where a program cannot be made."""
+def ended(who, work, failed="the program cannot be built"):
+    """Runs the work of a command, and ends with its status: 3, with a line that says what failed and why, if it cannot be done."""
     try:
         sys.exit(work())
     except KeyboardInterrupt:
         sys.exit(130)
     except Failed as why:
         lines = [why.said] if why.said else []
-        print(*lines, f"{who}: the program cannot be built: {why}", sep="\n", file=sys.stderr)
+        print(*lines, f"{who}: {failed}: {why}", sep="\n", file=sys.stderr)
     except OSError as error:
         at = os.path.relpath(error.filename, TOP) if error.filename else "a file"
-        print(f"{who}: the program cannot be built: {at}: {error.strerror}", file=sys.stderr)
+        print(f"{who}: {failed}: {at}: {error.strerror}", file=sys.stderr)
     sys.exit(3)
