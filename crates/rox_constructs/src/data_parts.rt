@@ -44,8 +44,7 @@ fn part<'input>(
     Ok(next)
 }
 
-/// Reads a part of the character data from `start` up to `stop`, and adds its piece if it has a character. The part ends at
-/// `stop` or at a reference to an entity, whose replacement text is returned.
+/// Like `part_piece`, but adds the part as a piece of its own, from the buffer for values.
 #[inline(never)]
 fn other_part_piece<'input>(
     cursor: &mut Cursor<'input>,
@@ -66,8 +65,9 @@ fn other_part_piece<'input>(
     Ok(next)
 }
 
-/// Like `other_part_piece`, but in the main text the part is appended to the waiting text, or starts one. This is not done if a
-/// text that has its row may continue.
+/// Reads a part of the character data from `start` up to `stop`, and adds its piece if it has a character. The part ends at
+/// `stop` or at a reference to an entity, whose replacement text is returned. In the main text the part is appended to the
+/// waiting text, or starts one, unless a text that has its row may continue.
 #[inline(always)]
 pub fn part_piece<'input>(
     cursor: &mut Cursor<'input>,

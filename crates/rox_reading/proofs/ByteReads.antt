@@ -6,14 +6,12 @@ use Rattle.std.proofs.lemmas.List.{get_or_past}
 use Rattle.rox_reading.specs.Lexical.{byte_at}
 use Rattle.rox_reading.specs.Values.{is_special}
 
--- a byte that is there, and is not 0, is within the text
-within_text : (src : List ℕ) (i b : ℕ) → slice_index src i ≡ b → 0 < b → i < length src
-within_text src i b is some = grind (arith, get_or_past)
-
 -- a byte but 0 that is there is read
 pub byte_is : (src : List ℕ) (i b : ℕ) → slice_index src i ≡ b → 0 < b → byte_at b src i ≡ Ok (tt, i + 1)
 unfolding byte_at
-byte_is src i b is some = rw (lt-leb (length src) i (within_text src i b is some), eq-eqb (slice_index src i) b is) refl
+byte_is src i b is some =
+    let within : i < length src = grind (arith, get_or_past) in
+    rw (lt-leb (length src) i within, eq-eqb (slice_index src i) b is) refl
 
 -- A byte that ends a stretch of a value is ASCII.
 pub special_ascii : (b : ℕ) → is_special b ≡ true → b < 128
