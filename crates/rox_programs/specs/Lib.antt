@@ -1,1 +1,2 @@
 pub mod ProgramError
+pub mod Output

@@ -1,2 +1,3 @@
 pub mod Command
 pub mod Fault
+pub mod Listing

@@ -1,6 +1,11 @@
 //! The listing of a tree.
 
-ghost use Rattle.std.specs.Prelude.{◌≤◌};
+ghost use Rattle.std.specs.Prelude.{◌≤◌, OnOk, flat_map, map};
+ghost use Rattle.std.specs.Io.KnownBytes.{Appends};
+ghost use Rattle.rox_programs.specs.Output.{Writes};
+ghost use Rattle.roxmltree.specs.NodeRef.{item_of, node_ref};
+ghost use Rattle.roxmltree.specs.NodeParts.{local_of, namespace_of};
+ghost use Rattle.xmltree.specs.Listing.{element_line, name_line, reached_line};
 
 use crate::entries::{Entry, attribute_entries, namespace_entries};
 use crate::output::{write_debug, write_range};
@@ -24,20 +29,26 @@ pub fn write_document<W: Write>(
 }
 
 /// Writes a line for each of these elements: its range in bytes and its name.
-pub fn write_elements<W: Write>(
-    elements: &[Node<'_, '_>],
-    out: &mut W,
-) -> Result<(), ProgramError> {
+pub fn write_elements<W: Write>(elements: &[Node<'_, '_>], out: &mut W) -> Result<(), ProgramError>
+    ensures { OnOk result (Appends (W.contents out.old) (W.contents out.new)
+        (flat_map reached_line (map node_ref elements.now))) }
+{
     let mut out = Output::new(out);
     for element in elements {
-        write_range(element.range(), &mut out);
-        out.text(" ");
-        write_name(element, &mut out);
+        write_element_line(element, &mut out);
         if out.has_failed() {
-            break;
+            return Ok(out.into_result()?);
         }
     }
     Ok(out.into_result()?)
+}
+
+fn write_element_line<W: Write>(element: &Node<'_, '_>, out: &mut Output<'_, W>)
+    ensures { Writes W.contents out.old out.new (element_line (item_of element.now)) }
+{
+    write_range(element.range(), out);
+    out.text(" ");
+    write_name(element, out);
 }
 
 fn write_nodes<W: Write>(
@@ -105,7 +116,10 @@ fn write_element<W: Write>(
     Ok(())
 }
 
-fn write_name<W: Write>(node: &Node<'_, '_>, out: &mut Output<'_, W>) {
+fn write_name<W: Write>(node: &Node<'_, '_>, out: &mut Output<'_, W>)
+    ensures { Writes W.contents out.old out.new
+        (name_line (local_of (item_of node.now)) (namespace_of (item_of node.now))) }
+{
     let name = node.tag_name();
     let uri = name.namespace().unwrap_or("");
     out.text(name.name());

@@ -1,5 +1,8 @@
 //! How texts and ranges are written in a listing.
 
+ghost use Rattle.rox_programs.specs.Output.{Writes};
+ghost use Rattle.xmltree.specs.Listing.{range_text};
+
 use rox_programs::output::Output;
 use std::io::Write;
 use std::ops::Range;
@@ -12,7 +15,9 @@ pub fn write_debug<W: Write>(text: &str, out: &mut Output<'_, W>) {
 }
 
 /// Writes the offsets where a range starts and ends, in bytes.
-pub fn write_range<W: Write>(range: Range<usize>, out: &mut Output<'_, W>) {
+pub fn write_range<W: Write>(range: Range<usize>, out: &mut Output<'_, W>)
+    ensures { Writes W.contents out.old out.new (range_text range.start range.end) }
+{
     if out.result.is_ok() {
         let (start, end) = (range.start, range.end);
         out.result = write!(out.writer, "{start}..{end}");

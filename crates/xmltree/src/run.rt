@@ -1,8 +1,9 @@
 //! The program, from its input to its status.
 
-ghost use Rattle.std.specs.Prelude.{◌≡◌, ◌<◌, ◌≤◌, List, string_bytes, IsNone, IfSome, IsErrOf, MatchOption, IsErr};
-ghost use Rattle.rox_path.specs.Steps.{PathStep};
+ghost use Rattle.std.specs.Prelude.{◌≡◌, ◌<◌, ◌≤◌, List, string_bytes, IsNone, IfSome, IsErrOf, MatchOption, IsErr, OnOk, map};
+ghost use Rattle.rox_path.specs.Steps.{PathStep, step_of};
 ghost use Rattle.rox_path.specs.Paths.{IsPath};
+ghost use Rattle.xmltree.specs.Listing.{PrintsReached};
 
 use crate::fault::Fault;
 use crate::listing;
@@ -86,7 +87,10 @@ fn write_asked<O: Write>(
     document: &Document<'_>,
     steps: Option<&Vec<Step<'_>>>,
     out: &mut O,
-) -> Result<(), ProgramError> {
+) -> Result<(), ProgramError>
+    ensures reached { IfSome steps.entry (λ asked. OnOk result (PrintsReached document.now
+        (map step_of asked.now.items) (O.contents out.old) (O.contents out.new))) }
+{
     match steps {
         Some(steps) => {
             let elements = select(alloc, document.root(), steps)?;
