@@ -48,7 +48,8 @@ fn write_input<I: Read + Drop, O: Write>(
     let bytes = read_all(alloc, input)?;
     write_buffered(alloc, out, |out| {
         write_dumps(alloc, &bytes, sources, options, out)
-    })
+    })?;
+    Ok(())
 }
 
 /// The text of a file.

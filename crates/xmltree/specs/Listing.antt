@@ -1,8 +1,11 @@
 -- The lines that are printed of the elements that a path reaches.
-use Rattle.std.specs.Prelude.{ℕ, List, [], ◌∷◌, ◌++◌, Option, unwrap_or, codes, flat_map}
+use Rattle.std.specs.Prelude.{◌≡◌, ℕ, Bool, List, [], ◌∷◌, ◌++◌, Option, None, Ok, unwrap_or, codes, flat_map}
 use Rattle.std.specs.Fmt.{decimal}
 use Rattle.std.specs.Io.KnownBytes.{Appends}
 use Rattle.roxmltree.specs.Tree.{Node}
+use Rattle.roxmltree.specs.Document.{IsTreeOf, Permits}
+use Rattle.roxmltree.specs.Doctype.{Asked}
+use Rattle.roxmltree.specs.Requests.{AreAllowed}
 use Rattle.roxmltree.specs.DocumentView.{DocumentView}
 use Rattle.roxmltree.specs.NodeRef.{node_refs}
 use Rattle.roxmltree.specs.NodeParts.{node_at, start_of, end_of, local_of, namespace_of}
@@ -36,3 +39,13 @@ pub record PrintsReached (document : DocumentView) (steps : List PathStep) (old 
   pub ids : List ℕ
   pub selects : Selects document.tree 0 steps ids
   pub lines : Appends old new (flat_map reached_line (node_refs document ids))
+
+-- The text has a parse, in which no resolver gives a text for an external entity. The writer holds the lines that its tree has for
+-- the steps.
+pub record PrintsPath (allow_dtd : Bool) (text : List ℕ) (steps : List PathStep) (old new : Option (List ℕ)) : Type 0 where
+  pub document : DocumentView
+  pub asked : List Asked
+  pub alone : AreAllowed (λ request reply. reply ≡ Ok None) asked
+  pub permits : Permits allow_dtd document.dtd
+  pub parsed : IsTreeOf text document.dtd asked 4294967295 document.tree
+  pub prints : PrintsReached document steps old new

@@ -43,6 +43,7 @@ pub fn write_elements<W: Write>(elements: &[Node<'_, '_>], out: &mut W) -> Resul
     Ok(out.into_result()?)
 }
 
+// Writes the range of an element and its name.
 fn write_element_line<W: Write>(element: &Node<'_, '_>, out: &mut Output<'_, W>)
     ensures { Writes W.contents out.old out.new (element_line (item_of element.now)) }
 {

@@ -1,18 +1,11 @@
-use Rattle.std.proofs.Common.{arith, refl, inr, Result, Ok, Err}
-use Rattle.std.specs.Prelude.{IfOk}
+use Rattle.std.proofs.Common.{refl, ap, ◌∙◌, inr}
+use Rattle.rox_programs.proofs.Buffers.{nothing_held, if_ok}
 use Rattle.rox_programs.proofs.buffered.write_buffered.Goals as goal
-use Rattle.rox_programs.proofs.buffered.write_buffered.Goals.{in-Ok-write, in-Err-write}
 
--- What holds in any case holds if there is a result.
-in_any_case : {A E P : Type 0} (r : Result A E) → P → IfOk r (λ _. P)
-in_any_case (Ok _) p = p
-in_any_case (Err _) p = tt
+pub returns-in-Ok-write-clause-written : goal.returns-in-Ok-write-clause-written
+returns-in-Ok-write-clause-written g c =
+    let begins = nothing_held _ _ c.in-Ok.ensures.empty ∙ ap g.O.Write.contents c.in-Ok.ensures.inner in
+    if_ok c.flushed.result (λ left kept. (_, _, record { shown = _; shows = refl; left = _; met = c.in-Ok-write.ensures; leaves = refl }, begins, kept)) c.flushed.ensures.written
 
-pub returns : goal.returns
-returns g c = elim c.match-write.branch [
-  | in-Ok-write w ↦ record {
-    written = in_any_case c.match-write.written (_, _, record { shown = _; shows = refl; left = _; met = w.in-Ok-write.ensures; leaves = refl });
-    refused = grind arith;
-  }
-  | in-Err-write w ↦ rw w.written-is (record { written = tt; refused = inr (inr (_, _, record { shown = _; shows = refl; left = _; met = w.in-Err-write.ensures; leaves = refl })) })
-]
+pub returns-in-Err-write-clause-refused : goal.returns-in-Err-write-clause-refused
+returns-in-Err-write-clause-refused g c = inr (inr (_, _, record { shown = _; shows = refl; left = _; met = c.in-Err-write.ensures; leaves = refl }))
