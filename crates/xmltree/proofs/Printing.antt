@@ -1,6 +1,7 @@
 -- What is printed through a buffer.
-use Rattle.std.proofs.Common.{◌≡◌, ◌∙◌, subst, List, ℕ, Option, Some, None, Ok, IfSome, flat_map}
+use Rattle.std.proofs.Common.{◌≡◌, subst, List, ℕ, Option, Some, None, Ok, IfSome, flat_map}
 use Rattle.std.specs.Io.KnownBytes.{Appends, Keeps}
+use Rattle.std.proofs.KnownBytes.{Appends-kept}
 use Rattle.roxmltree.specs.Doctype.{Request, Reply, Asked}
 use Rattle.roxmltree.specs.Requests.{Allows, AreAllowed}
 use Rattle.roxmltree.specs.DocumentView.{DocumentView}
@@ -8,14 +9,8 @@ use Rattle.roxmltree.specs.NodeRef.{node_refs}
 use Rattle.rox_path.specs.Steps.{PathStep}
 use Rattle.xmltree.specs.Listing.{PrintsReached, reached_line}
 
-pub appends_kept : (a b c : Option (List ℕ)) (bytes : List ℕ) → Appends a b bytes → Keeps b c → Appends a c bytes
-appends_kept None b c bytes h k = tt
-appends_kept (Some x) (Some y) (Some z) bytes h k = k ∙ h
-appends_kept (Some x) None c bytes h k = elim h [ ]
-appends_kept (Some x) (Some y) None bytes h k = elim k [ ]
-
 pub prints_kept : (document : DocumentView) (steps : List PathStep) (a a' b c : Option (List ℕ)) → a ≡ a' → PrintsReached document steps a b → Keeps b c → PrintsReached document steps a' c
-prints_kept document steps a a' b c is h k = record { ids = h.ids; selects = h.selects; lines = let bytes = flat_map reached_line (node_refs document h.ids) in subst (λ o. Appends o c bytes) is (appends_kept a b c bytes h.lines k) }
+prints_kept document steps a a' b c is h k = record { ids = h.ids; selects = h.selects; lines = let bytes = flat_map reached_line (node_refs document h.ids) in subst (λ o. Appends o c bytes) is (Appends-kept a b c bytes h.lines k) }
 
 pub if_some : {A : Type 0} {P Q : A → Type 0} (o : Option A) → ((a : A) → P a → Q a) → IfSome o P → IfSome o Q
 if_some (Some a) f p = f a p

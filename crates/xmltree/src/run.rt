@@ -108,6 +108,7 @@ fn print_document<O: Write + Drop>(
     }
 }
 
+// Prints a line for each node that the steps reach from the root node.
 fn print_reached<O: Write + Drop>(
     alloc: Global,
     document: &Document<'_>,
@@ -121,6 +122,7 @@ fn print_reached<O: Write + Drop>(
         ensures { OnOk result (PrintsReached document.entry.now (map step_of steps.entry.now)
             (writer_contents O.contents out.old) (writer_contents O.contents out.new)) }
     { write_reached(alloc, document, steps, out) };
+    // The proof needs the result apart.
     match write_buffered(alloc, out, write) {
         Ok(out) => Ok(out),
         Err(error) => Err(error),
