@@ -1,15 +1,9 @@
 -- An element whose start tag the fast path read, below the innermost open element.
-use Rattle.std.proofs.Common.{◌≡◌, ◌+◌, ◌-◌, ◌<◌, ◌^◌, ℕ, Bool, true, false, Option, Some, [], ◌∷◌, ◌++◌, Ok, List, length, take, get_or, slice_index, vec_len, vec_capacity, arith, refl, sym, ap, subst, ◌∙◌, IsUtf8}
+use Rattle.std.proofs.Common.{◌≡◌, ◌-◌, ◌<◌, ◌^◌, ℕ, Bool, true, false, Option, Some, [], Ok, List, length, take, get_or, slice_index, vec_len, vec_capacity, arith, refl, sym, ap, subst, ◌∙◌, IsUtf8, IsCharBoundary}
 use Rattle.rox_grammar.specs.Written.{Element, Item, NamespaceDecl}
 use Rattle.rox_grammar.specs.Forest.{Forest}
 use Rattle.rox_grammar.specs.State.{Open, scope_of}
-use Rattle.rox_grammar.specs.Chars.{is_part_char}
-use Rattle.rox_grammar.specs.Runs.{run_end}
 use Rattle.rox_grammar.specs.declared.fault.Fault.TheVariants as fault
-use Rattle.rox_bytes.specs.ScanResults.{Finds}
-use Rattle.rox_bytes.proofs.RunLemmas.{stands_within}
-use Rattle.std.proofs.lemmas.Str.{IsCharBoundary-after_ascii}
-use Rattle.rox_verbatim.proofs.Verbatim.{near_cut, near_ends}
 use Rattle.rox_reading.specs.Machine.{tag_step, opened_by, cut_off_fault}
 use Rattle.rox_reading.specs.Refusals.{lifted}
 use Rattle.rox_reading.specs.Tags.{Values}
@@ -20,23 +14,24 @@ use Rattle.rox_names.specs.declared.open_element.OpenElement.{OpenElement}
 use Rattle.rox_names.proofs.SameNames.{opened_named}
 use Rattle.rox_names.proofs.SpelledNames.{tag_is_named}
 use Rattle.rox_tags.specs.ElementRow.{Tagged}
-use Rattle.rox_verbatim.specs.PlainNames.{EndsNear}
 use Rattle.rox_rows.specs.Rows.{attribute_rows}
 use Rattle.rox_tags.specs.PlainTag.{HoldSame, IsPlainTag, MayOpenAt, ReadsTag}
+use Rattle.rox_tags.specs.TagHeads.{HasHead}
 use Rattle.rox_tags.specs.declared.quick_tag.PlainTag.{PlainTag}
+use Rattle.rox_tags.specs.declared.quick_tag.TagHead.{TagHead}
 use Rattle.rox_tags.proofs.WholeTags.{plain_moves}
-use Rattle.rox_builder.specs.BuilderState.{Adds, IsConsistent, IsNode, IsReady, IsReadyTo, Represents, ScansTo, last_row, opened_in}
+use Rattle.rox_builder.specs.BuilderState.{Adds, IsConsistent, IsNode, IsReady, IsReadyTo, KeepsState, Represents, ScansTo, last_row, opened_in}
 use Rattle.rox_builder.specs.Outcomes.{ReadsAt}
 use Rattle.rox_builder.specs.Putting.{MayPutOpen, PutsLeaf, PutsOpen}
 use Rattle.rox_builder.specs.declared.builder.Builder.{Builder}
 use Rattle.rox_builder.proofs.Growing.{grown_shows}
-use Rattle.rox_builder.proofs.Showing.{split_at, innermost_row}
+use Rattle.rox_builder.proofs.Showing.{split_at}
 use Rattle.rox_builder.proofs.Stepping.{top_scope}
-use Rattle.rox_content.specs.PlainElements.{MayPutElement, PutsElement}
+use Rattle.rox_content.specs.PlainElements.{MayPutElement, MayReadHead, PutsElement}
 use Rattle.rox_sections.specs.PlainOutcomes.{MayReadPart}
 use Rattle.rox_builder.specs.Readiness.{HasRoom}
 use Rattle.rox_content.proofs.Closing.{below_last}
-use Rattle.rox_content.proofs.TakenBack.{cut_back, fine_same}
+use Rattle.rox_content.proofs.TakenBack.{cut_back}
 use Rattle.rox_constructs.proofs.Opening.{grown_by, is_node, is_opening, fine_by, fine_kept, fine_more, namespace_by, tag_is, empty_stepped, open_stepped}
 
 -- the builder `m` is `b`, with other tables of elements
@@ -133,14 +128,6 @@ open_reads b m u above src i t g opens p = record {
       (λ q by. opened_named any_values fault.NoRootNode _ _ _ src i 0 _ _ t.tag q g.utf8 g.here (x.read any_values fault.NoRootNode 0) x.tagged.name x.tagged.name_end x.starts by);
 }
 
--- what ends near is a first part
-pub part_near : (src : List ℕ) (i j : ℕ) → IsUtf8 src → slice_index src i ≡ 60 → EndsNear src (i + 1) j → Finds src (i + 1) j (run_end is_part_char src (i + 1))
-part_near src i j utf8 here near = record {
-  place = near_ends src (i + 1) j utf8 near;
-  onward = near.ends.onward;
-  cut = near_cut src (i + 1) j utf8 (IsCharBoundary-after_ascii src i utf8 (stands_within src i 60 here (omega arith)) (omega (arith, here))) near;
-}
-
 -- and where it was put, the construct was read
 pub element_reads : (b m u : Builder) (above : List NamespaceDecl) (src : List ℕ) (i j : ℕ) (t : PlainTag) → ReadsBelow b m above src i t → PutsElement src i m u t j → ReadsAt tag_step src i j b u
 element_reads b m u above src i j t g p = subst (λ (n : ℕ). ReadsAt tag_step src i n b u) (sym p.end) (by_cases t.tag.empty refl)
@@ -154,54 +141,63 @@ pub may_open_at : (src : List ℕ) (i n : ℕ) (b : Builder) (o : OpenElement) �
 may_open_at src i n b o here room count some last =
     record { here = here; short = room.short; below = below_last b.tables b.opened.items (take (n - 1) b.opened.items) o room.fine (split_at b.opened.items n o count some last) }
 
--- The start tag at `i` is tried where its parent, the innermost open element, is `o`: the tables of elements become `tables`, and
--- `found` is the tag, if it was read. There were `held` attributes, and there is room for one more open element.
-pub record IsTried (src : List ℕ) (i part : ℕ) (b : Builder) (o : OpenElement) (tables : ElementTables) (held : ℕ) (found : Option PlainTag) : Type 0 where
+-- The start tag at `i`, which begins with `h`, is tried: the tables of elements become `tables`, and `found` is the tag, if it was
+-- read. There were `held` attributes.
+pub record IsTried (src : List ℕ) (i : ℕ) (b : Builder) (h : TagHead) (tables : ElementTables) (held : ℕ) (found : Option PlainTag) : Type 0 where
   pub utf8 : IsUtf8 src
-  pub may : MayReadPart src i part b
-  pub room : vec_len b.opened < vec_capacity b.opened
-  pub outer : List OpenElement
-  pub innermost : b.opened.items ≡ outer ++ o ∷ []
+  pub may : MayReadHead src i b h
   pub held_all : held ≡ length (attribute_rows b.tables.attributes)
-  pub tag : ReadsTag b.tables tables o src i found
+  pub tag : ReadsTag b.tables tables may.parent.scope src i found
 
-tried_below : {src : List ℕ} {i part : ℕ} {b : Builder} {o : OpenElement} {tables : ElementTables} {held : ℕ} {found : Option PlainTag} (m : Builder) (t : PlainTag) → IsTried src i part b o tables held found → found ≡ Some t
-    → m.tables ≡ tables → KeepsOthers b m → ReadsBelow b m (scope_in_tables b.tables o.scope) src i t
-tried_below {src = src} {i = i} {b = b} {o = o} m t h is into others = grind (arith, top_scope)
+tried_below : {src : List ℕ} {i : ℕ} {b : Builder} {h : TagHead} {tables : ElementTables} {held : ℕ} {found : Option PlainTag} (m : Builder) (t : PlainTag) (x : IsTried src i b h tables held found) → found ≡ Some t
+    → m.tables ≡ tables → KeepsOthers b m → ReadsBelow b m (scope_in_tables b.tables x.may.parent.scope) src i t
+tried_below {src = src} {i = i} {b = b} m t x is into others = grind (arith, top_scope)
 
 ready_one : (b m : Builder) → KeepsOthers b m → IsReady 1 b → IsReady 1 m
 ready_one b m k h = record { room = rw k.nodes h.room; few = rw (k.nodes, k.limit) h.few; small = rw k.nodes h.small; settled = rw k.pending h.settled }
 
 -- where a tag was found, it may be put
-pub tried_may_put : {src : List ℕ} {i part : ℕ} {b : Builder} {o : OpenElement} {tables : ElementTables} {held : ℕ} {found : Option PlainTag} (m : Builder) (t : PlainTag) → IsTried src i part b o tables held found → found ≡ Some t
-    → m.tables ≡ tables → KeepsOthers b m → m.opened ≡ b.opened → MayPutElement src i m o.row t
-tried_may_put {src = src} {i = i} {b = b} {o = o} m t h is into others opened =
-    let room = h.may.room in
-    let row : o.row ≡ last_row (opened_in m.tables m.opened.items) = sym (rw opened (innermost_row m.tables b.opened.items h.outer o h.innermost)) in
-    may_put b m _ src i o.row t (tried_below m t h is into others) row (ready_one b m others room.ready) (omega (arith, room.short, h.may.start.0)) (rw opened h.room)
+pub tried_may_put : {src : List ℕ} {i : ℕ} {b : Builder} {h : TagHead} {tables : ElementTables} {held : ℕ} {found : Option PlainTag} (m : Builder) (row : ℕ) (t : PlainTag) → IsTried src i b h tables held found → found ≡ Some t
+    → m.tables ≡ tables → KeepsOthers b m → m.opened ≡ b.opened → row ≡ last_row (opened_in m.tables m.opened.items) → MayPutElement src i m row t
+tried_may_put {src = src} {i = i} {b = b} m row t x is into others opened parent =
+    let room = x.may.room in
+    may_put b m _ src i row t (tried_below m t x is into others) parent (ready_one b m others room.ready) (omega (arith, room.short, x.may.start.0)) (rw opened x.may.depth)
 
 -- and is read once it is put
-pub tried_reads : {src : List ℕ} {i part : ℕ} {b : Builder} {o : OpenElement} {tables : ElementTables} {held : ℕ} {found : Option PlainTag} (m u : Builder) (j : ℕ) (t : PlainTag) → IsTried src i part b o tables held found → found ≡ Some t
+pub tried_reads : {src : List ℕ} {i : ℕ} {b : Builder} {h : TagHead} {tables : ElementTables} {held : ℕ} {found : Option PlainTag} (m u : Builder) (j : ℕ) (t : PlainTag) → IsTried src i b h tables held found → found ≡ Some t
     → m.tables ≡ tables → KeepsOthers b m → PutsElement src i m u t j → ReadsAt tag_step src i j b u
-tried_reads {src = src} {i = i} {b = b} m u j t h is into others put = element_reads b m u _ src i j t (tried_below m t h is into others) put
+tried_reads {src = src} {i = i} {b = b} m u j t x is into others put = element_reads b m u _ src i j t (tried_below m t x is into others) put
 
 -- where none was, the attributes are taken back
-pub tried_back : {src : List ℕ} {i part : ℕ} {b : Builder} {o : OpenElement} {tables : ElementTables} {held : ℕ} {found : Option PlainTag} → IsTried src i part b o tables held found
+pub tried_back : {src : List ℕ} {i : ℕ} {b : Builder} {h : TagHead} {tables : ElementTables} {held : ℕ} {found : Option PlainTag} → IsTried src i b h tables held found
     → (after : ElementTables) → after ≡ record tables { attributes = after.attributes } → attribute_rows after.attributes ≡ take held (attribute_rows tables.attributes) → HoldSame b.tables after
-tried_back {b = b} {tables = tables} {held = held} h after others cut = grind (arith, cut_back)
+tried_back {b = b} {tables = tables} {held = held} x after others cut = grind (arith, cut_back)
 
--- and the tag may be read again
-pub tried_again : {src : List ℕ} {i part : ℕ} {b : Builder} {o : OpenElement} {tables : ElementTables} {held : ℕ} {found : Option PlainTag} → IsTried src i part b o tables held found
-    → (u : Builder) → KeepsOthers b u → HoldSame b.tables u.tables → MayReadPart src i part u
-tried_again {b = b} h u others same =
-    let room = h.may.room in
+-- a tag begins below the innermost of `n` open elements, also in a builder with equal tables
+pub may_read_head : (src : List ℕ) (i n : ℕ) (b u : Builder) (o : OpenElement) (h : TagHead) → slice_index src i ≡ 60 → IsCharBoundary src i → HasRoom src b → vec_len b.opened < vec_capacity b.opened → n ≡ length b.opened.items → 0 < n → o ≡ get_or b.opened.items (n - 1) o
+    → HasHead b.tables o.scope src i h → KeepsOthers b u → u.tables ≡ b.tables → u.opened ≡ b.opened → MayReadHead src i u h
+may_read_head src i n b u o h here start room depth count some last head others tables opened = record {
+  here = here;
+  start = start;
+  room = record { short = room.short; ready = ready_one b u others room.ready; fine = rw (tables, opened) room.fine };
+  depth = rw opened depth;
+  outer = take (n - 1) b.opened.items;
+  parent = o;
+  innermost = rw opened (split_at b.opened.items n o count some last);
+  head = rw tables head;
+}
+
+-- where a tag was not read, it may be read again
+pub read_again : (src : List ℕ) (i part : ℕ) (b u : Builder) → MayReadPart src i part b → KeepsState b u → IsConsistent u.tables u.opened.items → MayReadPart src i part u
+read_again src i part b u may k fine =
+    let ready = may.room.ready in
     record {
-      here = h.may.here;
-      start = h.may.start;
-      part = h.may.part;
+      here = may.here;
+      start = may.start;
+      part = may.part;
       room = record {
-        short = room.short;
-        ready = ready_one b u others room.ready;
-        fine = rw others.opened (fine_same b.tables u.tables b.opened.items same room.fine);
+        short = may.room.short;
+        ready = record { room = rw k.nodes ready.room; few = rw (k.nodes, k.limit) ready.few; small = rw k.nodes ready.small; settled = rw k.pending ready.settled };
+        fine = fine;
       };
     }

@@ -1,9 +1,24 @@
 -- How the row of an element is put whose start tag the fast path read.
-use Rattle.std.specs.Prelude.{◌≡◌, ℕ, ◌<◌, ◌^◌, true, false, List}
+use Rattle.std.specs.Prelude.{◌≡◌, ℕ, ◌<◌, ◌^◌, true, false, List, [], ◌∷◌, ◌++◌, slice_index, vec_len, vec_capacity, IsCharBoundary}
 use Rattle.rox_rows.specs.declared.row.NodeKind.TheVariants as kind
+use Rattle.rox_names.specs.declared.open_element.OpenElement.{OpenElement}
+use Rattle.rox_tags.specs.TagHeads.{HasHead}
 use Rattle.rox_tags.specs.declared.quick_tag.PlainTag.{PlainTag}
+use Rattle.rox_tags.specs.declared.quick_tag.TagHead.{TagHead}
+use Rattle.rox_builder.specs.Readiness.{HasRoom}
 use Rattle.rox_builder.specs.Putting.{MayPutOpen, PutsLeaf, PutsOpen}
 use Rattle.rox_builder.specs.declared.builder.Builder.{Builder}
+
+-- The start tag at `i` begins with `h`, inside the innermost open element `parent`, and there is room for its row.
+pub record MayReadHead (src : List ℕ) (i : ℕ) (b : Builder) (h : TagHead) : Type 0 where
+  pub here : slice_index src i ≡ 60
+  pub start : IsCharBoundary src i
+  pub room : HasRoom src b
+  pub depth : vec_len b.opened < vec_capacity b.opened
+  pub outer : List OpenElement
+  pub parent : OpenElement
+  pub innermost : b.opened.items ≡ outer ++ parent ∷ []
+  pub head : HasHead b.tables parent.scope src i h
 
 -- There is room for the element whose start tag `t` starts at `i`. Its parent has the row `above`.
 pub record MayPutElement (src : List ℕ) (i : ℕ) (b : Builder) (above : ℕ) (t : PlainTag) : Type 0 where

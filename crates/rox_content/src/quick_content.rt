@@ -6,9 +6,7 @@ ghost use Rattle.rox_builder.specs.Outcomes.{MayStep};
 ghost use Rattle.rox_sections.specs.PlainOutcomes.{MayReadPlain, ReadsRows, ReadsStep, StandsApart};
 ghost use Rattle.rox_builder.specs.BuilderState.{IsReady, IsConsistent, IsReadyTo};
 
-use crate::quick_elements::{
-    close_element, element_in_scope, element_of_name, element_of_part, element_without_prefix,
-};
+use crate::quick_elements::{close_element, element, element_in_scope, element_of_name};
 use rox_builder::builder::Builder;
 use rox_bytes::byte_set::{PartByte, find_run, part_end};
 use rox_bytes::runs::{after_byte, is_at};
@@ -66,12 +64,7 @@ fn quick_markup<'input>(
     if element_of_name(cursor, builder, near) {
         return true;
     }
-    // White space and `/` are lower than the colon.
-    let end = if bytes[near] < b':' {
-        element_without_prefix(text, start, builder, near)
-    } else {
-        element_of_part(text, start, builder, run)
-    };
+    let end = element(text, start, builder, run);
     if end > MOST_BYTES {
         return false;
     }

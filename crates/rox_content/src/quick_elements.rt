@@ -1,28 +1,26 @@
 //! Plain start tags of elements and end tags, read by the fast path. The general step reads a tag that is not plain, or finds no
 //! room, from its first byte.
 
-ghost use Rattle.std.specs.Prelude.{◌≡◌, true, slice_index, IsCharBoundary, ◌+◌, ◌<◌};
+ghost use Rattle.std.specs.Prelude.{◌≡◌, true, slice_index, ◌+◌, ◌<◌};
 ghost use Rattle.rox_reading.specs.Machine as machine;
 ghost use Rattle.rox_reading.specs.Refusals.{lifted};
 ghost use Rattle.rox_builder.specs.Outcomes.{ReadsAt};
 ghost use Rattle.rox_builder.specs.Readiness.{IsApart, HasRoom};
 ghost use Rattle.rox_sections.specs.PlainOutcomes.{MayReadEnd, MayReadFirst, MayReadPart, ReadsIf, any_context};
-ghost use Rattle.rox_content.specs.PlainElements.{MayPutElement, PutsElement};
-ghost use Rattle.rox_verbatim.specs.PlainNames.{EndsNear, EndsPrefix};
+ghost use Rattle.rox_content.specs.PlainElements.{MayPutElement, MayReadHead, PutsElement};
 ghost use Rattle.rox_bytes.specs.ByteSets.{StopsSet, is_part_byte};
 
 use crate::same_front::closes_front;
 use rox_builder::builder::Builder;
 use rox_bytes::byte_set::{RunEnd, part_end_beyond};
-use rox_bytes::runs::after_byte;
+use rox_bytes::runs::{after_byte, is_at};
 use rox_rows::row::NodeKind;
 use rox_scan::cursor::Cursor;
-use rox_sections::quick_sections::NOT_READ;
+use rox_sections::quick_sections::{MOST_BYTES, NOT_READ};
 use rox_tags::quick_tag::{
-    PlainTag, start_tag_in_scope, start_tag_of_name, start_tag_with_prefix,
-    start_tag_without_prefix,
+    PlainTag, TagHead, head_in_scope, head_of_run, start_tag, start_tag_of_name,
 };
-use rox_tags::repeated_declaration::start_tag_repeating;
+use rox_tags::repeated_declaration::head_repeating;
 use rox_verbatim::quick_name::NamePlace;
 
 /// The number of scopes of a document whose root element alone declares namespaces.
@@ -111,97 +109,26 @@ fn put_element<'input>(
     read.end
 }
 
-/// Reads a start tag, from its `<` at `start`, if it is plain. The first part of its name ends at `part`. Returns the offset
-/// after it, or `NOT_READ`: an offset that is passed and returned by itself stays in registers.
-#[inline(never)]
-pub fn element_in_scope<'input>(
-    text: &'input str,
-    start: usize,
-    builder: &mut Builder<'input>,
-    part: usize,
-) -> usize
-    requires { MayReadPart text.now start part builder.old }
-    ensures { ReadsAt machine.tag_step text.entry.now start result builder.old builder.new }
-{
-    if !builder.has_room_to_open() {
-        return NOT_READ;
-    }
-    let depth = builder.opened.len();
-    if depth == 0 {
-        return NOT_READ;
-    }
-    let above = &builder.opened[depth - 1];
-    let row = above.row;
-    let held = builder.tables.attributes.len();
-    let Some(other) = start_tag_in_scope(
-        text,
-        NamePlace { start, part },
-        &mut builder.tables,
-        above,
-        &mut builder.buffers.seen,
-    ) else {
-        builder.tables.attributes.truncate(held);
-        return element_repeating(text, start, builder, part);
-    };
-    put_element(text, start, builder, row, other)
-}
-
-/// Like `element_in_scope`, but for a tag whose name has a prefix, of ASCII bytes, which `run` ends at its colon.
-#[inline(never)]
-fn element_with_prefix<'input>(
-    text: &'input str,
-    start: usize,
-    builder: &mut Builder<'input>,
-    run: RunEnd,
-) -> usize
-    requires here { slice_index text.now start ≡ 60 }
-    requires start { IsCharBoundary text.now start }
-    requires prefix { EndsPrefix text.now (start + 1) run }
-    requires room { HasRoom text.now builder.old }
-    ensures { ReadsAt machine.tag_step text.entry.now start result builder.old builder.new }
-{
-    if !builder.has_room_to_open() {
-        return NOT_READ;
-    }
-    let depth = builder.opened.len();
-    if depth == 0 {
-        return NOT_READ;
-    }
-    let above = &builder.opened[depth - 1];
-    let row = above.row;
-    let before = builder.tables.attributes.len();
-    let Some(read) = start_tag_with_prefix(
-        text,
-        start,
-        run,
-        &mut builder.tables,
-        above,
-        &mut builder.buffers.seen,
-    ) else {
-        builder.tables.attributes.truncate(before);
-        return element_repeating(text, start, builder, run.at);
-    };
-    put_element(text, start, builder, row, read)
-}
-
-/// Like `element_in_scope`, but the first ASCII bytes of the name end as `run` says, where no byte is that is lower than a colon.
+/// Reads the start tag that begins with `head`, from its `<` at `start`, if its attributes are plain. Returns the offset after
+/// it, or `NOT_READ`: an offset that is passed and returned by itself stays in registers.
 #[inline(always)]
-pub fn element_of_part<'input>(
+fn element_of_head<'input>(
     text: &'input str,
     start: usize,
     builder: &mut Builder<'input>,
-    run: RunEnd,
+    head: TagHead<'input>,
 ) -> usize
-    requires { MayReadFirst text.now start run builder.old }
+    requires { MayReadHead text.now start builder.old head }
     ensures { ReadsAt machine.tag_step text.entry.now start result builder.old builder.new }
 {
-    let name = after_byte(text, start, b'<');
-    let bytes = text.as_bytes();
-    if bytes[run.at] == b':' {
-        return element_with_prefix(text, start, builder, run);
-    }
-    let part = part_end_beyond(text, name, run.at);
-    element_in_scope(text, start, builder, part)
+    let from = builder.tables.attributes.len();
+    let (tables, seen) = (&mut builder.tables, &mut builder.buffers.seen);
+    let Some(read) = start_tag(text, start, head, tables, seen) else {
+        builder.tables.attributes.truncate(from);
+        return NOT_READ;
+    };
+    let parent = builder.parent();
+    put_element(text, start, builder, parent, read)
 }
 
 /// Like `element_in_scope`, but for a tag that has one declaration, before its attributes, as an earlier one below the same
@@ -223,59 +150,83 @@ fn element_repeating<'input>(
     if depth == 0 {
         return NOT_READ;
     }
-    let above = &builder.opened[depth - 1];
-    let row = above.row;
-    let first = builder.tables.attributes.len();
-    let Some(repeated) = start_tag_repeating(
-        text,
-        NamePlace { start, part },
-        &mut builder.tables,
-        above,
-        &mut builder.buffers.seen,
-    ) else {
-        builder.tables.attributes.truncate(first);
+    let parent = &builder.opened[depth - 1];
+    let place = NamePlace { start, part };
+    let Some(head) = head_repeating(text, place, &builder.tables, parent) else {
         return NOT_READ;
     };
-    put_element(text, start, builder, row, repeated)
+    element_of_head(text, start, builder, head)
 }
 
-/// Like `element_in_scope`, but for a tag whose name is of ASCII bytes, has no prefix and ends at `near`. If the name of its parent
-/// has no prefix either, its namespace is the parent's, which is read after the attributes.
-#[inline]
-pub fn element_without_prefix<'input>(
+/// Like `element_of_head`, but also reads the tag if it declares what an earlier one declared. The first part of its name ends at
+/// `part`.
+#[inline(always)]
+fn element_of_head_or_repeating<'input>(
     text: &'input str,
     start: usize,
     builder: &mut Builder<'input>,
-    near: usize,
+    head: TagHead<'input>,
+    part: usize,
 ) -> usize
-    requires here { slice_index text.now start ≡ 60 }
-    requires start { IsCharBoundary text.now start }
-    requires near { EndsNear text.now (start + 1) near }
-    requires room { HasRoom text.now builder.old }
+    requires head { MayReadHead text.now start builder.old head }
+    requires part { MayReadPart text.now start part builder.old }
     ensures { ReadsAt machine.tag_step text.entry.now start result builder.old builder.new }
 {
-    if !builder.has_room_to_open() {
-        return NOT_READ;
+    let end = element_of_head(text, start, builder, head);
+    if end <= MOST_BYTES {
+        return end;
     }
+    element_repeating(text, start, builder, part)
+}
+
+/// Reads a start tag, from its `<` at `start`, if it is plain. The first part of its name ends at `part`. Returns the offset
+/// after it, or `NOT_READ`. It is out of line: few tags have a name that `element` does not read.
+#[inline(never)]
+pub fn element_in_scope<'input>(
+    text: &'input str,
+    start: usize,
+    builder: &mut Builder<'input>,
+    part: usize,
+) -> usize
+    requires { MayReadPart text.now start part builder.old }
+    ensures { ReadsAt machine.tag_step text.entry.now start result builder.old builder.new }
+{
     let depth = builder.opened.len();
-    if depth == 0 {
+    if depth == 0 || !builder.has_room_to_open() {
         return NOT_READ;
-    }
-    if builder.opened[depth - 1].prefixed {
-        return element_in_scope(text, start, builder, near);
     }
     let parent = &builder.opened[depth - 1];
-    let from = builder.tables.attributes.len();
-    let Some(read) = start_tag_without_prefix(
-        text,
-        NamePlace { start, part: near },
-        &mut builder.tables,
-        parent,
-        &mut builder.buffers.seen,
-    ) else {
-        builder.tables.attributes.truncate(from);
-        return element_repeating(text, start, builder, near);
+    let place = NamePlace { start, part };
+    let near = &mut builder.buffers.seen.near;
+    let Some(head) = head_in_scope(text, place, &builder.tables, parent, near) else {
+        return element_repeating(text, start, builder, part);
     };
-    let row = parent.row;
-    put_element(text, start, builder, row, read)
+    element_of_head_or_repeating(text, start, builder, head, part)
+}
+
+/// Like `element_in_scope`, but the first ASCII bytes of the name end as `run` says.
+#[inline]
+pub fn element<'input>(
+    text: &'input str,
+    start: usize,
+    builder: &mut Builder<'input>,
+    run: RunEnd,
+) -> usize
+    requires { MayReadFirst text.now start run builder.old }
+    ensures { ReadsAt machine.tag_step text.entry.now start result builder.old builder.new }
+{
+    let part = part_end_beyond(text, after_byte(text, start, b'<'), run.at);
+    let depth = builder.opened.len();
+    if depth == 0 || !builder.has_room_to_open() {
+        return NOT_READ;
+    }
+    let parent = &builder.opened[depth - 1];
+    let near = &mut builder.buffers.seen.near;
+    let Some(head) = head_of_run(text, start, run, &builder.tables, parent, near) else {
+        if is_at(text, part, b':') {
+            return element_repeating(text, start, builder, part);
+        }
+        return element_in_scope(text, start, builder, part);
+    };
+    element_of_head_or_repeating(text, start, builder, head, part)
 }

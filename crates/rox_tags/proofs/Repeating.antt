@@ -26,7 +26,8 @@ use Rattle.rox_tags.specs.Repeating.{AreOneMore, IsRepeated, Repeats}
 use Rattle.rox_tags.specs.TagAttributes.{IsNearDeclaration, holding}
 use Rattle.rox_tags.proofs.OwnNames.{xmlns_letter}
 use Rattle.rox_tags.proofs.TagAttributes.{taken_declared, turn_is}
-use Rattle.rox_tags.proofs.WholeTags.{Begins, scope_of_parent}
+use Rattle.rox_tags.specs.TagHeads.{Begins}
+use Rattle.rox_tags.proofs.WholeTags.{scope_of_parent}
 
 -- ---- what the scope lists
 

@@ -3,11 +3,10 @@ use Rattle.std.proofs.Common.{◌≡◌, ℕ, ◌+◌, ◌<◌, ◌≤◌, true,
 use Rattle.rox_grammar.specs.declared.fault.Fault.{Fault}
 use Rattle.rox_grammar.specs.declared.fault.Fault.TheVariants as fault
 use Rattle.rox_grammar.specs.declared.fault.Word.TheVariants.{Xmlns}
-use Rattle.rox_grammar.specs.Document.{most_attributes}
+use Rattle.rox_grammar.specs.Document.{most_attributes, most_pairs}
 use Rattle.rox_grammar.specs.FixedTexts.{word_text}
 use Rattle.rox_grammar.specs.Failures.{name_view}
-use Rattle.rox_grammar.specs.Counts.{with_new}
-use Rattle.rox_grammar.specs.Tree.{element_namespace, listable_of, listed}
+use Rattle.rox_grammar.specs.Tree.{element_namespace, listed}
 use Rattle.rox_grammar.specs.WellNamed.{may_name}
 use Rattle.rox_grammar.specs.Written.{NamespaceDecl}
 use Rattle.rox_reading.specs.Lexical.{qname_at}
@@ -15,7 +14,7 @@ use Rattle.rox_reading.specs.Tags.{Values, attributes_at, names_tested, tag_test
 use Rattle.rox_rows.specs.Rows.{attribute_rows, numbered_place}
 use Rattle.rox_grammar.specs.AtIndex.{namespace_at}
 use Rattle.rox_scopes.specs.NamespaceViews.{namespace_view}
-use Rattle.rox_names.specs.TagScopes.{scope_in_tables}
+use Rattle.rox_names.specs.TagScopes.{HasBindings, scope_in_tables}
 use Rattle.rox_names.specs.declared.tables.ElementTables.{ElementTables}
 use Rattle.rox_scopes.proofs.Listing.{listed-none}
 use Rattle.rox_names.specs.OpenElements.{IsNamespaceOf}
@@ -25,6 +24,7 @@ use Rattle.rox_starts.specs.ElementRow.{IsElementFrom}
 use Rattle.rox_attributes.specs.PlainAttribute.{HasScope}
 use Rattle.rox_tags.specs.PlainTag.{IsPlainTag, MayOpenBelow}
 use Rattle.rox_tags.specs.TagAttributes.{ArePlainAttributes, holding}
+use Rattle.rox_tags.specs.TagHeads.{Begins}
 use Rattle.rox_tags.specs.declared.own_declaration.TagScope.{TagScope}
 use Rattle.rox_starts.proofs.Moving.{tag_moves}
 use Rattle.rox_starts.proofs.Starting.{tag_made, tested_known, tested_passes}
@@ -34,28 +34,18 @@ use Rattle.rox_tags.proofs.TagAttributes.{plain_count}
 abbrev pub in_scope : ℕ → TagScope
 in_scope n = record { scope = n; declares = false }
 
--- a tag whose parent has the scope `above` declares `own` between `k` and `j`, and has the scope `n` then, which is in the tables
-pub record Begins (t : ElementTables) (above n : ℕ) (own : List NamespaceDecl) (src : List ℕ) (k j : ℕ) : Type 0 where
-  pub scope : HasScope t n
-  pub lists : scope_in_tables t n ≡ listed (scope_in_tables t above) own
-  pub pairs : with_new (map namespace_view t.namespaces.items.items) (listable_of own) ≡ map namespace_view t.namespaces.items.items
-  pub turns : ℕ
-  pub enough : length src ≤ turns + j
-  pub read : (context : Values) (cut : Fault) (openings_left : ℕ)
-      → attributes_at (length src) context cut (map namespace_view t.namespaces.items.items) src k openings_left (holding [] []) ≡ attributes_at turns context cut (map namespace_view t.namespaces.items.items) src j openings_left (holding own [])
-
 pub scope_of_parent : (t : ElementTables) (o : OpenElement) → MayOpenBelow t o → HasScope t o.scope
 scope_of_parent t o below = record { places = below.places; scopes = below.scopes; within = below.parent.0; once = below.parent.1 }
 
 -- the tag of a child of an open element, whose attributes were read
-pub begun_tagged : (old new : ElementTables) (o : OpenElement) (n : ℕ) (own : List NamespaceDecl) (src : List ℕ) (i k j end : ℕ) (t : StartTag) (from namespace : ℕ) → MayOpenBelow old o
-    → Begins old o.scope n own src k j → ArePlainAttributes (in_scope n) old new src j end t.empty
+pub begun_tagged : (old new : ElementTables) (m n : ℕ) (own : List NamespaceDecl) (src : List ℕ) (i k j end : ℕ) (t : StartTag) (from namespace : ℕ) → length old.namespaces.items.items ≤ most_pairs → HasBindings old
+    → Begins old m n own src k j → ArePlainAttributes (in_scope n) old new src j end t.empty
     → qname_at src (i + 1) ≡ Ok (name_view t.name, k) → bytes_eq (name_view t.name).prefix (word_text Xmlns) ≡ false → t.name_start ≡ i + 1 → t.name_end ≡ k
     → IsElementFrom new t.name.local from n namespace t.element → from ≡ length (attribute_rows old.attributes) → length (attribute_rows new.attributes) ≤ most_attributes
     → IsNamespaceOf old n (name_view t.name) (numbered_place namespace) → may_name (scope_in_tables old n) (name_view t.name) ≡ true → IsCharBoundary src end
-    → IsPlainTag old new (scope_in_tables old o.scope) src i end t
-begun_tagged old new o n own src i k j end t from namespace below b x is other starts name_end e from_is most named known cut =
-    let above = scope_in_tables old o.scope in
+    → IsPlainTag old new (scope_in_tables old m) src i end t
+begun_tagged old new m n own src i k j end t from namespace few kept b x is other starts name_end e from_is most named known cut =
+    let above = scope_in_tables old m in
     let scope = listed above own in
     let names = map namespace_view old.namespaces.items.items in
     let count = length (attribute_rows old.attributes) in
@@ -84,7 +74,7 @@ begun_tagged old new o n own src i k j end t from namespace below b x is other s
     }
 
 -- a tag that declares nothing has the scope of its parent
-begins_plain : (t : ElementTables) (o : OpenElement) (src : List ℕ) (k : ℕ) → MayOpenBelow t o → Begins t o.scope o.scope [] src k k
+pub begins_plain : (t : ElementTables) (o : OpenElement) (src : List ℕ) (k : ℕ) → MayOpenBelow t o → Begins t o.scope o.scope [] src k k
 begins_plain t o src k below = record {
   scope = scope_of_parent t o below;
   lists = sym (listed-none (scope_in_tables t o.scope));
@@ -100,7 +90,7 @@ pub plain_tagged : (old new : ElementTables) (o : OpenElement) (src : List ℕ) 
     → IsElementFrom new t.name.local from o.scope namespace t.element → from ≡ length (attribute_rows old.attributes) → length (attribute_rows new.attributes) ≤ most_attributes
     → IsNamespaceOf old o.scope (name_view t.name) (numbered_place namespace) → may_name (scope_in_tables old o.scope) (name_view t.name) ≡ true → IsCharBoundary src end
     → IsPlainTag old new (scope_in_tables old o.scope) src i end t
-plain_tagged old new o src i k end t from namespace below = begun_tagged old new o o.scope [] src i k k end t from namespace below (begins_plain old o src k below)
+plain_tagged old new o src i k end t from namespace below = begun_tagged old new o.scope o.scope [] src i k k end t from namespace below.few below.kept (begins_plain old o src k below)
 
 -- a plain tag ends behind its start
 pub plain_moves : (old new : ElementTables) (above : List NamespaceDecl) (src : List ℕ) (i j : ℕ) (t : StartTag) → IsUtf8 src

@@ -2,6 +2,7 @@ pub mod PlainTag
 pub mod Repeating
 pub mod PlainParts
 pub mod TagAttributes
+pub mod TagHeads
 pub mod RootTag
 -- What the crates above cite of the general step.
 pub use Rattle.rox_starts.specs.ElementRow

@@ -13,11 +13,7 @@ use Rattle.rox_names.specs.declared.open_element.OpenElement.{OpenElement}
 use Rattle.rox_grammar.specs.WellNamed.{may_name}
 use Rattle.rox_tags.specs.declared.quick_tag.TagEnd.{TagEnd}
 use Rattle.rox_verbatim.specs.declared.quick_name.NamePlace.{NamePlace}
-use Rattle.rox_verbatim.specs.declared.quick_name.NameAt.{NameAt}
-use Rattle.rox_verbatim.specs.PlainNames.{EndsNear, IsPlainName}
-use Rattle.rox_grammar.specs.declared.fault.Word.TheVariants.{Xmlns}
-use Rattle.rox_grammar.specs.FixedTexts.{word_text}
-use Rattle.rox_grammar.specs.Failures.{name_view}
+use Rattle.rox_verbatim.specs.PlainNames.{EndsNear}
 use Rattle.rox_attributes.specs.PlainAttribute.{HasScope}
 use Rattle.rox_tags.specs.PlainTag.{MayOpenBelow, MayOpenAt}
 
@@ -49,14 +45,6 @@ pub record MayReadBareTag (src : List ℕ) (i j : ℕ) (t : ElementTables) (o : 
   pub closed : slice_index src j ≡ 62
   pub below : MayOpenBelow t o
   pub few_attributes : length (attribute_rows t.attributes) ≤ most_attributes
-
--- A start tag may be at `i`, and its name `x` was read. Its parent is `o`, and its namespace has the number `s`.
-pub record MayReadNamed (src : List ℕ) (i : ℕ) (x : NameAt) (s : ℕ) (t : ElementTables) (o : OpenElement) : Type 0 where
-  pub here : MayOpenAt src i t o
-  pub named : IsPlainName src (i + 1) x
-  pub other : bytes_eq x.name.prefix.now (word_text Xmlns) ≡ false
-  pub space : IsNamespaceOf t o.scope (name_view x.name) (numbered_place s)
-  pub known : may_name (scope_in_tables t o.scope) (name_view x.name) ≡ true
 
 -- A start tag may be at `p`, with a name whose first part ends at `p.part`. Its parent is `o`.
 pub record MayReadPlainTag (src : List ℕ) (p : NamePlace) (t : ElementTables) (o : OpenElement) : Type 0 where

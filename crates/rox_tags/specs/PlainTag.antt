@@ -32,9 +32,9 @@ pub record IsPlainTag (old new : ElementTables) (above : List NamespaceDecl) (sr
   pub starts : t.name_start ≡ i + 1
   pub cut : IsCharBoundary src end
 
--- The start tag at `i`, a child of `o`, was read, if it is plain.
-pub record ReadsTag (old new : ElementTables) (o : OpenElement) (src : List ℕ) (i : ℕ) (result : Option PlainTag) : Type 0 where
-  pub read : IfSome result (λ t. IsPlainTag old new (scope_in_tables old o.scope) src i t.end t.tag)
+-- The start tag at `i` was read, if it is plain. Its parent has the scope `above`.
+pub record ReadsTag (old new : ElementTables) (above : ℕ) (src : List ℕ) (i : ℕ) (result : Option PlainTag) : Type 0 where
+  pub read : IfSome result (λ t. IsPlainTag old new (scope_in_tables old above) src i t.end t.tag)
   pub grown : HasMore old new
 
 -- The start tag `p` of a name alone, which has no attributes, is read at `i`. Its parent is `o`.

@@ -1,17 +1,21 @@
 //! Start tags by the fast path: those whose attribute values refer only to predefined entities (XML 1.0
 //! sections 3.1 and 4.6). Nothing fails here: the general step reads a tag that is not plain, or finds no room, from its `<`.
 
-ghost use Rattle.std.specs.Prelude.{◌≡◌, ◌<◌, ◌+◌, ◌-◌, ◌==◌, Ok, IfSome, slice_index, true, false, ◌≤◌, length, IsCharBoundary, ◌^◌, [], bytes_eq};
+ghost use Rattle.std.specs.Prelude.{◌≡◌, ◌<◌, ◌+◌, ◌-◌, ◌==◌, Ok, IfSome, slice_index, true, false, ◌≤◌, length, IsCharBoundary, ◌^◌, [], bytes_eq, ℕ};
 ghost use Rattle.rox_grammar.specs.Failures.{name_view};
-ghost use Rattle.rox_tags.specs.PlainParts.{EndsTag, FindsElementNamespace, MayNameBelow, MayNamePrefixedBelow, MayReadBareTag, MayReadNamed, MayReadPlainTag};
+ghost use Rattle.rox_tags.specs.PlainParts.{EndsTag, FindsElementNamespace, MayNameBelow, MayNamePrefixedBelow, MayReadBareTag, MayReadPlainTag};
 ghost use Rattle.rox_verbatim.specs.PlainValues.{IsBeforeLast};
-ghost use Rattle.rox_tags.specs.PlainTag.{IsBareTag, ReadsTag, MayOpenAt};
+ghost use Rattle.rox_tags.specs.PlainTag.{IsBareTag, ReadsTag, MayOpenAt, MayOpenBelow};
+ghost use Rattle.rox_tags.specs.TagHeads.{HasHead};
 ghost use Rattle.rox_tags.specs.TagAttributes.{MayReadAttributes, ReadsAttributes};
 ghost use Rattle.rox_grammar.specs.Document.{most_attributes, most_pairs};
 ghost use Rattle.rox_rows.specs.Rows.{attribute_rows};
 ghost use Rattle.rox_grammar.specs.Chars.{is_space};
 ghost use Rattle.rox_grammar.specs.Runs.{run_end};
+ghost use Rattle.rox_bytes.specs.ByteSets.{is_part_byte};
+ghost use Rattle.rox_bytes.specs.RunEnds.{EndsRun};
 ghost use Rattle.rox_bytes.specs.ScanResults.{Finds};
+ghost use Rattle.rox_names.specs.declared.tables.ElementTables.{ElementTables};
 ghost use Rattle.rox_attributes.specs.PlainAttribute.{HasScope};
 ghost use Rattle.rox_verbatim.specs.PlainNames.{EndsNear, EndsPrefix};
 
@@ -147,26 +151,6 @@ pub fn tag_attributes<'input>(
     None
 }
 
-/// Like `tag_attributes`, but first tests whether white space follows the name. Many tags have no attributes, and then no white
-/// space follows.
-#[inline(always)]
-pub(crate) fn tag_attributes_if_any<'input>(
-    text: &'input str,
-    start: usize,
-    elements: &mut ElementTables<'input>,
-    tag: TagScope,
-    seen: &mut SeenNames,
-) -> Option<TagEnd>
-    requires { MayReadAttributes text.now start elements.old tag }
-    ensures { ReadsAttributes elements.old elements.new tag text.entry.now start result }
-{
-    let bytes = text.as_bytes();
-    if start < bytes.len() && bytes[start] > b' ' {
-        return attributes_end(text, start, elements);
-    }
-    tag_attributes(text, start, elements, tag, seen)
-}
-
 /// A plain start tag that was read, and the offset at which it ends.
 #[derive(Clone, Copy)]
 pub struct PlainTag<'input> {
@@ -289,119 +273,157 @@ fn tag_namespace(
     namespace_below(elements, name, parent, near)
 }
 
-/// Reads the rest of the start tag at `start`, behind its name `name`, which has the namespace `namespace`. See
-/// `start_tag_in_scope`.
-#[inline(always)]
-fn start_tag_named<'input>(
-    text: &'input str,
-    start: usize,
-    name: NameAt<'input>,
-    namespace: u16,
-    elements: &mut ElementTables<'input>,
-    parent: &OpenElement<'input>,
-    seen: &mut SeenNames,
-) -> Option<PlainTag<'input>>
-    requires { MayReadNamed text.now start name namespace elements.old parent.now }
-    ensures { ReadsTag elements.old elements.new parent.entry.now text.entry.now start result }
-{
-    let name_start = after_byte(text, start, b'<');
-    let from = elements.attributes.len();
-    let scope = TagScope {
-        scope: parent.scope,
-        declares: false,
-    };
-    let end = tag_attributes_if_any(text, name.end, elements, scope, seen)?;
-    let element = element_of(elements, name.name.local, from, parent.scope, namespace);
-    let tag = StartTag {
-        name: name.name,
-        name_start,
-        name_end: name.end,
-        element,
-        empty: end.empty,
-    };
-    Some(PlainTag { tag, end: end.at })
+/// What a start tag has before its attributes: its name, and at most one declaration, which its scope lists too.
+#[derive(Clone, Copy)]
+pub struct TagHead<'input> {
+    pub name: NameAt<'input>,
+    /// The number of the namespace of its name, as rows store it.
+    pub namespace: u16,
+    /// The scope of the element.
+    pub scope: u32,
+    /// The offset after the name and the declaration.
+    pub end: usize,
 }
 
-/// Reads the start tag at `place`, a child of `parent`, if it is plain and finds room. Its attributes are in the table then. If
-/// `None` is returned, the table may have some of them too.
+/// Returns the head of the start tag at `start` that declares nothing, a child of `parent`, if neither name has a prefix. The
+/// tag's name is of ASCII bytes and ends at `near`.
 #[inline(always)]
-pub fn start_tag_in_scope<'input>(
+fn head_without_prefix<'input>(
+    text: &'input str,
+    start: usize,
+    near: usize,
+    parent: &OpenElement<'input>,
+) -> TagHead<'input>
+    requires here { slice_index text.now start ≡ 60 }
+    requires near { EndsNear text.now (start + 1) near }
+    requires bare { parent.now.prefixed ≡ false }
+    ensures { (t : ElementTables) → MayOpenBelow t parent.entry.now
+        → HasHead t parent.entry.now.scope text.entry.now start result }
+{
+    let local = ascii_name(text, after_byte(text, start, b'<'), near);
+    let name = QName { prefix: "", local };
+    TagHead {
+        name: NameAt { name, end: near },
+        namespace: parent.namespace,
+        scope: parent.scope,
+        end: near,
+    }
+}
+
+/// Returns the head of the start tag at `start`, whose name has the prefix `run`, of ASCII bytes, up to a colon. See
+/// `head_of_run`.
+#[inline(always)]
+fn head_with_prefix<'input>(
+    text: &'input str,
+    start: usize,
+    run: RunEnd,
+    elements: &ElementTables<'input>,
+    parent: &OpenElement<'input>,
+    near: &mut usize,
+) -> Option<TagHead<'input>>
+    requires here { MayOpenAt text.now start elements.now parent.now }
+    requires prefix { EndsPrefix text.now (start + 1) run }
+    ensures { IfSome result
+        (λ h. HasHead elements.entry.now parent.entry.now.scope text.entry.now start h) }
+{
+    let name = name_of_prefix(text, after_byte(text, start, b'<'), run)?;
+    let prefix = name.name.prefix;
+    // No prefix is empty here. One test of it spares the others.
+    if prefix.is_empty() || same_text(prefix, "xmlns") {
+        return None;
+    }
+    let namespace = namespace_below(elements, name.name, parent, near)?;
+    Some(TagHead {
+        name,
+        namespace,
+        scope: parent.scope,
+        end: name.end,
+    })
+}
+
+/// Returns the head of the start tag at `start` that declares nothing, a child of `parent`. The first ASCII bytes of its name end
+/// as `run` says. Most names are of ASCII bytes, and have a prefix or a parent without one. Returns `None` for other names, and
+/// if the prefix is not known or the scope lists many places.
+#[inline(always)]
+pub fn head_of_run<'input>(
+    text: &'input str,
+    start: usize,
+    run: RunEnd,
+    elements: &ElementTables<'input>,
+    parent: &OpenElement<'input>,
+    near: &mut usize,
+) -> Option<TagHead<'input>>
+    requires here { MayOpenAt text.now start elements.now parent.now }
+    requires run { EndsRun is_part_byte text.now (start + 1) run }
+    requires letter { 63 < slice_index text.now (start + 1) }
+    ensures { IfSome result
+        (λ h. HasHead elements.entry.now parent.entry.now.scope text.entry.now start h) }
+{
+    let stop = text.as_bytes()[run.at];
+    if stop == b':' {
+        return head_with_prefix(text, start, run, elements, parent, near);
+    }
+    if stop > b':' || parent.prefixed {
+        return None;
+    }
+    Some(head_without_prefix(text, start, run.at, parent))
+}
+
+/// Like `head_of_run`, but for any name: its first part ends at `place.part`.
+#[inline(always)]
+pub fn head_in_scope<'input>(
     text: &'input str,
     place: NamePlace,
-    elements: &mut ElementTables<'input>,
+    elements: &ElementTables<'input>,
     parent: &OpenElement<'input>,
-    seen: &mut SeenNames,
-) -> Option<PlainTag<'input>>
-    requires { MayReadPlainTag text.now place elements.old parent.now }
-    ensures { ReadsTag elements.old elements.new parent.entry.now text.entry.now place.start
-        result }
+    near: &mut usize,
+) -> Option<TagHead<'input>>
+    requires { MayReadPlainTag text.now place elements.now parent.now }
+    ensures { IfSome result
+        (λ h. HasHead elements.entry.now parent.entry.now.scope text.entry.now place.start h) }
 {
     let name_start = after_byte(text, place.start, b'<');
     let name = name_of_part(text, name_start, place.part)?;
     if same_text(name.name.prefix, "xmlns") {
         return None;
     }
-    let namespace = tag_namespace(elements, name.name, name_start, parent, &mut seen.near)?;
-    start_tag_named(text, place.start, name, namespace, elements, parent, seen)
+    let namespace = tag_namespace(elements, name.name, name_start, parent, near)?;
+    Some(TagHead {
+        name,
+        namespace,
+        scope: parent.scope,
+        end: name.end,
+    })
 }
 
-/// Like `start_tag_in_scope`, but for the tag at `start` whose name has the prefix `run`, of ASCII bytes, up to a colon.
+/// Reads the start tag at `start`, which begins with `head`, if its attributes are plain and find room. They are in the table
+/// then. If `None` is returned, the table may have some of them too.
 #[inline(always)]
-pub fn start_tag_with_prefix<'input>(
+pub fn start_tag<'input>(
     text: &'input str,
     start: usize,
-    run: RunEnd,
+    head: TagHead<'input>,
     elements: &mut ElementTables<'input>,
-    parent: &OpenElement<'input>,
     seen: &mut SeenNames,
 ) -> Option<PlainTag<'input>>
-    requires here { MayOpenAt text.now start elements.old parent.now }
-    requires prefix { EndsPrefix text.now (start + 1) run }
-    ensures { ReadsTag elements.old elements.new parent.entry.now text.entry.now start result }
+    requires here { slice_index text.now start ≡ 60 }
+    requires attributes { MayReadAttributes text.now head.end elements.old
+        (record { scope = head.scope; declares = false }) }
+    ensures { (above : ℕ) → HasHead elements.old above text.entry.now start head.entry
+        → ReadsTag elements.old elements.new above text.entry.now start result }
 {
-    let name_start = after_byte(text, start, b'<');
-    let name = name_of_prefix(text, name_start, run)?;
-    let prefix = name.name.prefix;
-    // No prefix is empty here. One test of it spares the others.
-    if prefix.is_empty() {
-        return None;
-    }
-    if same_text(prefix, "xmlns") {
-        return None;
-    }
-    let namespace = namespace_below(elements, name.name, parent, &mut seen.near)?;
-    start_tag_named(text, start, name, namespace, elements, parent, seen)
-}
-
-/// Like `start_tag_in_scope`, but neither the name of the tag nor that of `above` has a prefix. The tag's name is of ASCII bytes.
-#[inline(always)]
-pub fn start_tag_without_prefix<'input>(
-    text: &'input str,
-    place: NamePlace,
-    elements: &mut ElementTables<'input>,
-    above: &OpenElement<'input>,
-    seen: &mut SeenNames,
-) -> Option<PlainTag<'input>>
-    requires here { MayOpenAt text.now place.start elements.old above.now }
-    requires near { EndsNear text.now (place.start + 1) place.part }
-    requires bare { above.now.prefixed ≡ false }
-    ensures { ReadsTag elements.old elements.new above.entry.now text.entry.now place.start
-        result }
-{
-    let first = elements.attributes.len();
+    let from = elements.attributes.len();
     let scope = TagScope {
-        scope: above.scope,
+        scope: head.scope,
         declares: false,
     };
-    let close = tag_attributes(text, place.part, elements, scope, seen)?;
-    // What the attributes do not need is read after them, so that it takes no register meanwhile.
-    let name_at = after_byte(text, place.start, b'<');
-    let local = ascii_name(text, name_at, place.part);
-    let element = element_of(elements, local, first, above.scope, above.namespace);
+    let close = tag_attributes(text, head.end, elements, scope, seen)?;
+    let NameAt { name, end } = head.name;
+    let element = element_of(elements, name.local, from, head.scope, head.namespace);
     let tag = StartTag {
-        name: QName { prefix: "", local },
-        name_start: name_at,
-        name_end: place.part,
+        name,
+        name_start: after_byte(text, start, b'<'),
+        name_end: end,
         element,
         empty: close.empty,
     };

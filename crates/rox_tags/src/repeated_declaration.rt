@@ -9,21 +9,18 @@ ghost use Rattle.rox_scopes.specs.Scopes.{ArePlaces, pair, prefix_view};
 ghost use Rattle.rox_names.specs.TagDeclarations.{unresolved_view};
 ghost use Rattle.rox_tags.specs.PlainParts.{MayReadPlainTag};
 ghost use Rattle.rox_attributes.specs.PlainAttribute.{HasScope};
-ghost use Rattle.rox_tags.specs.PlainTag.{ReadsTag};
+ghost use Rattle.rox_tags.specs.TagHeads.{HasHead};
 ghost use Rattle.rox_tags.specs.Repeating.{AreOneMore, IsRepeated, Repeats};
 
-use crate::own_declaration::{TagScope, declaration_after};
-use crate::quick_tag::{PlainTag, namespace_in_scope, tag_attributes_if_any};
+use crate::own_declaration::declaration_after;
+use crate::quick_tag::{TagHead, namespace_in_scope};
 use rox_bytes::runs::after_byte;
 use rox_compare::compare::same_text;
 use rox_names::open_element::OpenElement;
-use rox_names::start_tag::StartTag;
 use rox_names::tables::ElementTables;
 use rox_names::unresolved_attribute::UnresolvedAttribute;
 use rox_scopes::namespace::Namespace;
 use rox_scopes::scope::{few_places, is_declared, is_xml, same_prefix};
-use rox_seen::seen_names::SeenNames;
-use rox_starts::tag::element_of;
 use rox_verbatim::quick_name::{NamePlace, name_of_part};
 
 /// The number of scopes that are tried, from the last one on.
@@ -104,20 +101,18 @@ fn scope_repeating<'input>(
     repeated_scope(elements, above, prefix, one.value.as_str())
 }
 
-/// Reads the start tag at `place`, a child of `parent`, if it has one declaration, before its attributes, as an earlier tag below
-/// the same namespaces had. The attributes are read in the scope of that tag. If `None` is returned, the table may have some of
-/// them.
+/// Returns the head of the start tag at `place`, a child of `parent`, if it has one declaration, before its attributes, as an
+/// earlier tag below the same namespaces had. The element has the scope of that tag.
 #[inline(always)]
-pub fn start_tag_repeating<'input>(
+pub fn head_repeating<'input>(
     text: &'input str,
     place: NamePlace,
-    elements: &mut ElementTables<'input>,
+    elements: &ElementTables<'input>,
     parent: &OpenElement<'input>,
-    seen: &mut SeenNames,
-) -> Option<PlainTag<'input>>
-    requires { MayReadPlainTag text.now place elements.old parent.now }
-    ensures { ReadsTag elements.old elements.new parent.entry.now text.entry.now place.start
-        result }
+) -> Option<TagHead<'input>>
+    requires { MayReadPlainTag text.now place elements.now parent.now }
+    ensures { IfSome result
+        (λ h. HasHead elements.entry.now parent.entry.now.scope text.entry.now place.start h) }
 {
     let name_start = after_byte(text, place.start, b'<');
     let name = name_of_part(text, name_start, place.part)?;
@@ -127,19 +122,10 @@ pub fn start_tag_repeating<'input>(
     let one = declaration_after(text, name.end)?;
     let scope = scope_repeating(elements, parent.scope, &one)?;
     let namespace = namespace_in_scope(elements, name.name, name_start, scope)?;
-    let from = elements.attributes.len();
-    let within = TagScope {
+    Some(TagHead {
+        name,
+        namespace,
         scope,
-        declares: false,
-    };
-    let close = tag_attributes_if_any(text, one.end, elements, within, seen)?;
-    let element = element_of(elements, name.name.local, from, scope, namespace);
-    let tag = StartTag {
-        name: name.name,
-        name_start,
-        name_end: name.end,
-        element,
-        empty: close.empty,
-    };
-    Some(PlainTag { tag, end: close.at })
+        end: one.end,
+    })
 }

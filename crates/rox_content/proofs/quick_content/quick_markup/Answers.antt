@@ -1,9 +1,8 @@
-use Rattle.std.proofs.Common.{ℕ, List, ◌+◌, slice_index, ne_eqb, refl, ap, ◌∙◌, arith}
+use Rattle.std.proofs.Common.{ℕ, List, ◌+◌, ◌<◌, ◌^◌, slice_index, ne_eqb, refl, ap, ◌∙◌, arith}
 use Rattle.rox_builder.specs.BuilderState.{IsInState, IsReady, IsReadyTo}
 use Rattle.rox_builder.proofs.Stepping.{step_is_markup}
 use Rattle.rox_sections.proofs.PlainReads.{keeps_same}
 use Rattle.rox_content.proofs.quick_content.quick_markup.Goals as goal
-use Rattle.rox_content.proofs.quick_content.quick_markup.Goals.{then-bytes-near-lt58, else-bytes-near-lt58}
 
 pub returns-then-next-eq47 : goal.returns-then-next-eq47
 returns-then-next-eq47 c = record {
@@ -52,55 +51,36 @@ returns-then-element_of_name c = record {
 }
 
 pub returns : goal.returns
-returns c = record {
-  reads = record {
-    value = λ _ context end s around h.
-        let i = c.args.cursor.now.pos in
-        let b = slice_index c.as_bytes-bytes.result.now (i + 1) in
-        let is = step_is_markup context c.args.cursor.now.text.now _ s i b c.as_bytes-bytes.ensures.value h.here (ap (λ (xs : List ℕ). slice_index xs c.args.cursor.now.pos) c.as_bytes-bytes.ensures.value ∙ c.requires.here) c.if-cursor-bytes.false refl (λ e. absurd (omega (arith, c.if-next-le63.false, e))) in
-        let sees : IsInState context.limit end s c.args.cursor.now c.element_of_name.new.builder = rw ((c.element_of_name.ensures.other c.if-element_of_name.false).1) h in
-        rw (is, ne_eqb b 63 (λ e. absurd (omega (arith, c.if-next-le63.false, e))), ne_eqb b 47 (λ e. absurd (omega (arith, c.if-next-le63.false, e))))
-        (elim c.if-bytes-near-lt58.branch [
-          | then-bytes-near-lt58 w ↦ rw (w.builder-is) (w.element_without_prefix-end.ensures.value (omega (arith, c.if-end-gt-MOST_BYTES.false, w.end-is)) context end s c.args.cursor.now _ refl w.end-is sees)
-          | else-bytes-near-lt58 w ↦ rw (w.builder-is) (w.element_of_part-end.ensures.value (omega (arith, c.if-end-gt-MOST_BYTES.false, w.end-is)) context end s c.args.cursor.now _ refl w.end-is sees)
-        ]);
-    other = λ no. absurd (cc no);
-    goes = record {
-      source = c.element_of_name.ensures.goes.source;
-      fine = elim c.if-bytes-near-lt58.branch [
-        | then-bytes-near-lt58 w ↦ rw (w.builder-is) (w.element_without_prefix-end.ensures.fine)
-        | else-bytes-near-lt58 w ↦ rw (w.builder-is) (w.element_of_part-end.ensures.fine)
-      ];
-    };
-  };
-  ready = λ _ most h.
-      let same = (c.element_of_name.ensures.other c.if-element_of_name.false).1 in
-      let ready : IsReadyTo most c.element_of_name.new.builder = rw same h in
-      elim c.if-bytes-near-lt58.branch [
-        | then-bytes-near-lt58 w ↦ rw (w.builder-is) (w.element_without_prefix-end.ensures.ready (omega (arith, c.if-end-gt-MOST_BYTES.false, w.end-is)) most ready).ready
-        | else-bytes-near-lt58 w ↦ rw (w.builder-is) (w.element_of_part-end.ensures.ready (omega (arith, c.if-end-gt-MOST_BYTES.false, w.end-is)) most ready).ready
-      ];
-  apart = λ _ _.
-      let same = (c.element_of_name.ensures.other c.if-element_of_name.false).1 in
-      let ready : IsReady 1 c.element_of_name.new.builder = rw same c.requires.room.ready in
-      elim c.if-bytes-near-lt58.branch [
-        | then-bytes-near-lt58 w ↦ rw (w.builder-is) (w.element_without_prefix-end.ensures.ready (omega (arith, c.if-end-gt-MOST_BYTES.false, w.end-is)) _ ready).apart
-        | else-bytes-near-lt58 w ↦ rw (w.builder-is) (w.element_of_part-end.ensures.ready (omega (arith, c.if-end-gt-MOST_BYTES.false, w.end-is)) _ ready).apart
-      ];
-  moves = λ _. elim c.if-bytes-near-lt58.branch [
-    | then-bytes-near-lt58 w ↦ rw w.end-is (w.element_without_prefix-end.ensures.moves (omega (arith, c.if-end-gt-MOST_BYTES.false, w.end-is)))
-    | else-bytes-near-lt58 w ↦ rw w.end-is (w.element_of_part-end.ensures.moves (omega (arith, c.if-end-gt-MOST_BYTES.false, w.end-is)))
-  ];
-}
+returns c =
+    let same = (c.element_of_name.ensures.other c.if-element_of_name.false).1 in
+    let read = c.element-end.ensures in
+    let less : c.element-end.result < 2 ^ 32 = omega (arith, c.if-end-gt-MOST_BYTES.false) in
+    record {
+      reads = record {
+        value = λ _ context end s around h.
+            let i = c.args.cursor.now.pos in
+            let b = slice_index c.as_bytes-bytes.result.now (i + 1) in
+            let is = step_is_markup context c.args.cursor.now.text.now _ s i b c.as_bytes-bytes.ensures.value h.here (ap (λ (xs : List ℕ). slice_index xs c.args.cursor.now.pos) c.as_bytes-bytes.ensures.value ∙ c.requires.here) c.if-cursor-bytes.false refl (λ e. absurd (omega (arith, c.if-next-le63.false, e))) in
+            let sees : IsInState context.limit end s c.args.cursor.now c.element_of_name.new.builder = rw same h in
+            rw (is, ne_eqb b 63 (λ e. absurd (omega (arith, c.if-next-le63.false, e))), ne_eqb b 47 (λ e. absurd (omega (arith, c.if-next-le63.false, e))))
+            (read.value less context end s c.args.cursor.now _ refl refl sees);
+        other = λ no. absurd (cc no);
+        goes = record { source = c.element_of_name.ensures.goes.source; fine = read.fine };
+      };
+      ready = λ _ most h.
+          let ready : IsReadyTo most c.element_of_name.new.builder = rw same h in
+          (read.ready less most ready).ready;
+      apart = λ _ _.
+          let ready : IsReady 1 c.element_of_name.new.builder = rw same c.requires.room.ready in
+          (read.ready less _ ready).apart;
+      moves = λ _. read.moves less;
+    }
 
 pub returns-then-end-gt-MOST_BYTES : goal.returns-then-end-gt-MOST_BYTES
 returns-then-end-gt-MOST_BYTES c = grind arith
 
-pub element_without_prefix-end-requires : goal.element_without_prefix-end-requires
-element_without_prefix-end-requires c = grind arith
-
-pub element_of_part-end-requires : goal.element_of_part-end-requires
-element_of_part-end-requires c = grind arith
+pub element-end-requires : goal.element-end-requires
+element-end-requires c = grind arith
 
 pub invariant_of-cursor : goal.invariant_of-cursor
 invariant_of-cursor c = grind arith

@@ -1,0 +1,20 @@
+use Rattle.std.proofs.Common.{arith, refl}
+use Rattle.rox_content.proofs.PlainElements.{may_open_at}
+use Rattle.rox_sections.proofs.PlainReads.{reads_kept}
+use Rattle.rox_content.proofs.quick_elements.element.Goals as goal
+
+pub head_of_run-requires : goal.head_of_run-requires
+head_of_run-requires c = record {
+  here = may_open_at c.args.text.now c.args.start c.len-depth.result c.args.builder.now c.index-parent.result.now c.requires.here c.requires.room (omega arith) (omega arith) c.index-parent.ensures;
+  run = c.requires.run;
+  letter = c.requires.letter;
+}
+
+pub returns-then-is_at : goal.returns-then-is_at
+returns-then-is_at c = reads_kept _ _ _ _ c.args.builder.now _ _ (record { nodes = refl; opened = refl; pending = refl; joined = refl; limit = refl; openings_left = refl; others = refl; attributes = refl }) c.element_repeating.ensures
+
+pub returns-in_default : goal.returns-in_default
+returns-in_default c = reads_kept _ _ _ _ c.args.builder.now _ _ (record { nodes = refl; opened = refl; pending = refl; joined = refl; limit = refl; openings_left = refl; others = refl; attributes = refl }) c.element_in_scope.ensures
+
+pub returns : goal.returns
+returns c = reads_kept _ _ _ _ c.args.builder.now _ _ (record { nodes = refl; opened = refl; pending = refl; joined = refl; limit = refl; openings_left = refl; others = refl; attributes = refl }) c.element_of_head_or_repeating.ensures
