@@ -1,10 +1,12 @@
 //! Attributes by the fast path, put into their table: those whose values refer only to predefined entities (XML 1.0 sections
 //! 3.1 and 4.6). Nothing fails here: if an attribute is not read, the general step reads its tag again, from its `<`.
 
-ghost use Rattle.std.specs.Prelude.{◌≡◌, ◌<◌, ◌+◌, ◌-◌, ◌==◌, IfSome, length, bytes_eq, false, []};
+ghost use Rattle.std.specs.Prelude.{◌≡◌, ◌<◌, ◌+◌, ◌-◌, ◌==◌, IfSome, length, bytes_eq, false, [], slice_index};
 ghost use Rattle.rox_bytes.specs.ScanResults.{EndsNear as StartsNear};
 ghost use Rattle.rox_grammar.specs.Failures.{name_view};
 ghost use Rattle.rox_grammar.specs.Written.{Name};
+ghost use Rattle.rox_verbatim.specs.PlainNames.{IsPlainName};
+ghost use Rattle.rox_verbatim.specs.PlainValues.{IsValueStart};
 ghost use Rattle.rox_attributes.specs.PlainAttribute.{HasScope, IsAttributeNamespace, IsPlainAttribute, MayPut, MayPutNamed, MayPutPart, PutsPlain, PutsSome};
 
 use crate::any_value::any_value;
@@ -35,6 +37,31 @@ use std::alloc::Global;
 /// The longest name, in bytes, that fits into a 16-byte window with `=` and a quote.
 const MOST_NAME: usize = 14;
 
+/// Returns the name at `place`, however it is written, and the start of the value after it, or `None` if there is none. Most names
+/// here have no prefix, and `=` and a quote right after them.
+#[inline(always)]
+fn name_and_value_start<'input>(
+    text: &'input str,
+    place: NamePlace,
+) -> Option<(NameAt<'input>, usize)>
+    requires part { StartsNear text.now place.start place.part }
+    requires begins { 62 < slice_index text.now place.start }
+    ensures name { IfSome result (λ r. IsPlainName text.entry.now place.start r.0) }
+    ensures value { IfSome result (λ r. IsValueStart text.entry.now r.0.end r.1) }
+{
+    let NamePlace { start, part } = place;
+    if quote_after_equals(text, part) != 0 {
+        return Some((name_without_prefix(text, start, part), part + 2));
+    }
+    let colon = part_end_beyond(text, start, part);
+    let name = name_of_part(text, start, colon)?;
+    let from = any_value_start(text, name.end);
+    if from == 0 {
+        return None;
+    }
+    Some((name, from))
+}
+
 /// Returns the attribute at `place`, however it is written, or `None` if there is none. Its value must not depend on context, and
 /// it is owned if it needs a replacement. Also returns `None` if memory is refused, which sets `lacking`.
 #[inline(always)]
@@ -45,16 +72,12 @@ fn any_attribute<'input>(
     recent: &mut Option<Box<Recent>>,
     lacking: &mut bool,
 ) -> Option<UnresolvedAttribute<'input>>
-    requires { StartsNear text.now place.start place.part }
+    requires part { StartsNear text.now place.start place.part }
+    requires begins { 62 < slice_index text.now place.start }
     ensures { IfSome result (λ a. IsPlainAttribute text.entry.now place.start a) }
 {
     let start = place.start;
-    let colon = part_end_beyond(text, start, place.part);
-    let name = name_of_part(text, start, colon)?;
-    let from = any_value_start(text, name.end);
-    if from == 0 {
-        return None;
-    }
+    let (name, from) = name_and_value_start(text, place)?;
     let quote = quote_before(text, from);
     let read = any_value(alloc, text, from, quote, recent, lacking)?;
     Some(UnresolvedAttribute {

@@ -307,15 +307,17 @@ pub fn line_run_end(from: Cursor<'_>) -> Option<usize>
     Some(end)
 }
 
-/// Like `line_run_end`, but only if the end is among the sixteen bytes after the CR. It calls no function that is out of line.
+/// Like `line_run_end`, but only if a `<` ends the character data, among the sixteen bytes after the CR. It calls no function that
+/// is out of line.
 #[inline(always)]
 pub fn near_line_run_end(from: Cursor<'_>) -> Option<usize>
-    ensures { IfSome result (IsLineRun from.entry.text.now from.entry.pos) }
+    ensures run { IfSome result (IsLineRun from.entry.text.now from.entry.pos) }
+    ensures before { IfSome result (λ j. slice_index from.entry.text.now j ≡ 60) }
 {
     let text = from.text;
     let feed = line_feed(text, from.pos)?;
     let end = find_near::<TextByte>(text, feed)?;
-    if !ends_character_data(text, end) {
+    if !is_at(text, end, b'<') {
         return None;
     }
     Some(end)

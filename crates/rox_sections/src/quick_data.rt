@@ -100,9 +100,6 @@ fn put_line_end<'input>(text: &'input str, start: usize, builder: &mut Builder<'
     let Some(end) = near_line_run_end(Cursor { text, pos: start }) else {
         return put_new_line(text, start, builder);
     };
-    if !is_at(text, end, b'<') {
-        return NOT_READ;
-    }
     let Some(shared) = builder.recent.shared(&text[start + 1..end]) else {
         return put_new_line(text, start, builder);
     };

@@ -6,11 +6,11 @@ use Rattle.rox_attributes.proofs.quick_attribute.any_attribute.Goals as goal
 pub returns : goal.returns
 returns c =
     let src = c.args.text.now in
-    let s = c.any_value_start-from.result in
-    let v = c.any_value_start-from.ensures (omega arith) in
+    let s = c.in_ok-name.from in
+    let v = c.in_ok-name.ensures.value in
     let q = c.quote_before-quote.result in
     let quoted = c.quote_before-quote.ensures in
-    let n = c.in_ok-name.ensures in
+    let n = c.in_ok-name.ensures.name in
     let j = c.in_ok-read.read.end in
     let w = c.in_ok-read.ensures in
     let start = v.start in
