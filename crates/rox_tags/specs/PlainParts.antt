@@ -1,5 +1,5 @@
 -- What the parts of a plain tag require, and what is read of them.
-use Rattle.std.specs.Prelude.{◌≡◌, ℕ, ◌+◌, ◌<◌, ◌≤◌, ◌^◌, true, false, List, Option, length, slice_index, IfSome, [], bytes_eq, IsCharBoundary}
+use Rattle.std.specs.Prelude.{◌≡◌, ℕ, ◌+◌, ◌≤◌, true, false, List, Option, length, slice_index, IfSome, IsCharBoundary}
 use Rattle.rox_grammar.specs.Chars.{is_part_char}
 use Rattle.rox_grammar.specs.Runs.{run_end}
 use Rattle.rox_grammar.specs.Written.{Name}
@@ -22,21 +22,12 @@ pub record FindsElementNamespace (t : ElementTables) (n : ℕ) (name : Name) (re
   pub is : IfSome result (λ s. IsNamespaceOf t n name (numbered_place s))
   pub known : IfSome result (λ _. may_name (scope_in_tables t n) name ≡ true)
 
--- The name `name` at `i` may be resolved in the scope of the open element `o`.
-pub record MayNameBelow (t : ElementTables) (o : OpenElement) (name : Name) (i : ℕ) : Type 0 where
+-- The name `name` may be resolved in the scope of the open element `o`.
+pub record MayNameBelow (t : ElementTables) (o : OpenElement) (name : Name) : Type 0 where
   pub scope : HasScope t o.scope
   pub few : length t.namespaces.items.items ≤ most_pairs
   pub parent : IsNamespaceOf t o.scope (open_name o) (numbered_place o.namespace)
   pub named : MayHavePrefix o name.prefix
-  pub small : i < 2 ^ 63
-
--- The name `name` has a prefix, which may be looked up in the scope of the open element `o`.
-pub record MayNamePrefixedBelow (t : ElementTables) (o : OpenElement) (name : Name) : Type 0 where
-  pub scope : HasScope t o.scope
-  pub few : length t.namespaces.items.items ≤ most_pairs
-  pub parent : IsNamespaceOf t o.scope (open_name o) (numbered_place o.namespace)
-  pub named : MayHavePrefix o name.prefix
-  pub prefixed : bytes_eq name.prefix [] ≡ false
 
 -- A tag of a name alone is at `i`, and its name ends at `j`. Its parent is `o`.
 pub record MayReadBareTag (src : List ℕ) (i j : ℕ) (t : ElementTables) (o : OpenElement) : Type 0 where

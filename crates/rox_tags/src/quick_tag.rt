@@ -1,23 +1,25 @@
 //! Start tags by the fast path: those whose attribute values refer only to predefined entities (XML 1.0
 //! sections 3.1 and 4.6). Nothing fails here: the general step reads a tag that is not plain, or finds no room, from its `<`.
 
-ghost use Rattle.std.specs.Prelude.{◌≡◌, ◌<◌, ◌+◌, ◌-◌, ◌==◌, Ok, IfSome, slice_index, true, false, ◌≤◌, length, IsCharBoundary, ◌^◌, [], bytes_eq, ℕ};
+ghost use Rattle.std.specs.Prelude.{◌≡◌, ◌<◌, ◌+◌, ◌-◌, ◌==◌, Ok, IfSome, slice_index, true, false, ◌≤◌, length, IsCharBoundary, [], bytes_eq, ℕ};
 ghost use Rattle.rox_grammar.specs.Failures.{name_view};
-ghost use Rattle.rox_tags.specs.PlainParts.{EndsTag, FindsElementNamespace, MayNameBelow, MayNamePrefixedBelow, MayReadBareTag, MayReadPlainTag};
+ghost use Rattle.rox_tags.specs.PlainParts.{EndsTag, FindsElementNamespace, MayNameBelow, MayReadBareTag, MayReadPlainTag};
 ghost use Rattle.rox_verbatim.specs.PlainValues.{IsBeforeLast};
 ghost use Rattle.rox_tags.specs.PlainTag.{IsBareTag, ReadsTag, MayOpenAt, MayOpenBelow};
 ghost use Rattle.rox_tags.specs.TagHeads.{HasHead};
 ghost use Rattle.rox_tags.specs.TagAttributes.{MayReadAttributes, ReadsAttributes};
 ghost use Rattle.rox_grammar.specs.Document.{most_attributes, most_pairs};
 ghost use Rattle.rox_rows.specs.Rows.{attribute_rows};
-ghost use Rattle.rox_grammar.specs.Chars.{is_space};
+ghost use Rattle.rox_grammar.specs.declared.fault.Word.TheVariants.{Xmlns};
+ghost use Rattle.rox_grammar.specs.Chars.{is_part_char, is_space};
+ghost use Rattle.rox_grammar.specs.FixedTexts.{word_text};
 ghost use Rattle.rox_grammar.specs.Runs.{run_end};
 ghost use Rattle.rox_bytes.specs.ByteSets.{is_part_byte};
 ghost use Rattle.rox_bytes.specs.RunEnds.{EndsRun};
 ghost use Rattle.rox_bytes.specs.ScanResults.{Finds};
 ghost use Rattle.rox_names.specs.declared.tables.ElementTables.{ElementTables};
 ghost use Rattle.rox_attributes.specs.PlainAttribute.{HasScope};
-ghost use Rattle.rox_verbatim.specs.PlainNames.{EndsNear, EndsPrefix};
+ghost use Rattle.rox_verbatim.specs.PlainNames.{EndsNear, EndsPrefix, IsPlainName};
 
 use crate::own_declaration::{TagScope, declares_at, put_declaration};
 use rox_attributes::prefix_cache::find_in_slot;
@@ -193,20 +195,15 @@ pub fn start_tag_of_name<'input>(
 /// Returns the number of an element's namespace in the scope `scope`, as rows store it. Returns `None` if the prefix of its name
 /// is not known or the scope lists many places.
 #[inline(always)]
-pub fn namespace_in_scope(
-    elements: &ElementTables<'_>,
-    name: QName<'_>,
-    at: usize,
-    scope: u32,
-) -> Option<u16>
+pub fn namespace_in_scope(elements: &ElementTables<'_>, name: QName<'_>, scope: u32) -> Option<u16>
     requires scope { HasScope elements.now scope }
     requires few { length elements.now.namespaces.items.items ≤ most_pairs }
-    requires small { at < 2 ^ 63 }
     ensures { FindsElementNamespace elements.entry.now scope (name_view name.entry) result }
 {
     let places = few_places(&elements.scopes, &elements.listed, scope)?;
     let namespaces = elements.namespaces.as_slice();
-    match element_namespace(namespaces, Some(places), &elements.present, name, at) {
+    // The offset is that of an error, which is dropped.
+    match element_namespace(namespaces, Some(places), &elements.present, name, 0) {
         Ok(namespace) => Some(namespace_number(namespace)),
         Err(_) => None,
     }
@@ -239,7 +236,8 @@ fn namespace_below(
     parent: &OpenElement<'_>,
     near: &mut usize,
 ) -> Option<u16>
-    requires { MayNamePrefixedBelow elements.now parent.now (name_view name) }
+    requires below { MayNameBelow elements.now parent.now (name_view name) }
+    requires prefixed { bytes_eq (name_view name).prefix [] ≡ false }
     ensures { FindsElementNamespace elements.entry.now parent.entry.now.scope
         (name_view name.entry) result }
 {
@@ -256,11 +254,10 @@ fn namespace_below(
 fn tag_namespace(
     elements: &ElementTables<'_>,
     name: QName<'_>,
-    at: usize,
     parent: &OpenElement<'_>,
     near: &mut usize,
 ) -> Option<u16>
-    requires { MayNameBelow elements.now parent.now (name_view name) at }
+    requires { MayNameBelow elements.now parent.now (name_view name) }
     ensures { FindsElementNamespace elements.entry.now parent.entry.now.scope
         (name_view name.entry) result }
 {
@@ -268,7 +265,7 @@ fn tag_namespace(
         if !parent.prefixed {
             return Some(parent.namespace);
         }
-        return namespace_in_scope(elements, name, at, parent.scope);
+        return namespace_in_scope(elements, name, parent.scope);
     }
     namespace_below(elements, name, parent, near)
 }
@@ -369,6 +366,23 @@ pub fn head_of_run<'input>(
     Some(head_without_prefix(text, start, run.at, parent))
 }
 
+/// Returns the name of the start tag at `place`, or `None` if none is there or its prefix is `xmlns`.
+#[inline(always)]
+pub fn tag_name<'input>(text: &'input str, place: NamePlace) -> Option<NameAt<'input>>
+    requires here { slice_index text.now place.start ≡ 60 }
+    requires part { Finds text.now (place.start + 1) place.part
+        (run_end is_part_char text.now (place.start + 1)) }
+    ensures name { IfSome result (λ n. IsPlainName text.entry.now (place.start + 1) n) }
+    ensures other { IfSome result
+        (λ n. bytes_eq n.name.prefix.now (word_text Xmlns) ≡ false) }
+{
+    let name = name_of_part(text, after_byte(text, place.start, b'<'), place.part)?;
+    if same_text(name.name.prefix, "xmlns") {
+        return None;
+    }
+    Some(name)
+}
+
 /// Like `head_of_run`, but for any name: its first part ends at `place.part`.
 #[inline(always)]
 pub fn head_in_scope<'input>(
@@ -382,12 +396,8 @@ pub fn head_in_scope<'input>(
     ensures { IfSome result
         (λ h. HasHead elements.entry.now parent.entry.now.scope text.entry.now place.start h) }
 {
-    let name_start = after_byte(text, place.start, b'<');
-    let name = name_of_part(text, name_start, place.part)?;
-    if same_text(name.name.prefix, "xmlns") {
-        return None;
-    }
-    let namespace = tag_namespace(elements, name.name, name_start, parent, near)?;
+    let name = tag_name(text, place)?;
+    let namespace = tag_namespace(elements, name.name, parent, near)?;
     Some(TagHead {
         name,
         namespace,

@@ -13,15 +13,14 @@ ghost use Rattle.rox_tags.specs.TagHeads.{HasHead};
 ghost use Rattle.rox_tags.specs.Repeating.{AreOneMore, IsRepeated, Repeats};
 
 use crate::own_declaration::declaration_after;
-use crate::quick_tag::{TagHead, namespace_in_scope};
-use rox_bytes::runs::after_byte;
+use crate::quick_tag::{TagHead, namespace_in_scope, tag_name};
 use rox_compare::compare::same_text;
 use rox_names::open_element::OpenElement;
 use rox_names::tables::ElementTables;
 use rox_names::unresolved_attribute::UnresolvedAttribute;
 use rox_scopes::namespace::Namespace;
 use rox_scopes::scope::{few_places, is_declared, is_xml, same_prefix};
-use rox_verbatim::quick_name::{NamePlace, name_of_part};
+use rox_verbatim::quick_name::NamePlace;
 
 /// The number of scopes that are tried, from the last one on.
 const TRIED: usize = 8;
@@ -114,14 +113,10 @@ pub fn head_repeating<'input>(
     ensures { IfSome result
         (λ h. HasHead elements.entry.now parent.entry.now.scope text.entry.now place.start h) }
 {
-    let name_start = after_byte(text, place.start, b'<');
-    let name = name_of_part(text, name_start, place.part)?;
-    if same_text(name.name.prefix, "xmlns") {
-        return None;
-    }
+    let name = tag_name(text, place)?;
     let one = declaration_after(text, name.end)?;
     let scope = scope_repeating(elements, parent.scope, &one)?;
-    let namespace = namespace_in_scope(elements, name.name, name_start, scope)?;
+    let namespace = namespace_in_scope(elements, name.name, scope)?;
     Some(TagHead {
         name,
         namespace,

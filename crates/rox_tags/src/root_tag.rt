@@ -5,10 +5,9 @@ ghost use Rattle.rox_tags.specs.RootTag.{BeginsOwn, BeginsScopes, GivesRootTag, 
 ghost use Rattle.rox_tags.specs.TagAttributes.{BeginsRoot};
 
 use crate::own_declaration::{OWN, TagScope};
-use crate::quick_tag::{PlainTag, namespace_in_scope, tag_attributes};
+use crate::quick_tag::{PlainTag, namespace_in_scope, tag_attributes, tag_name};
 use rox_bytes::byte_set::part_end;
 use rox_bytes::runs::after_byte;
-use rox_compare::compare::same_text;
 use rox_growth::growth::push;
 use rox_names::start_tag::StartTag;
 use rox_names::tables::ElementTables;
@@ -17,7 +16,7 @@ use rox_scopes::namespace_table::NamespaceTable;
 use rox_scopes::stored_scope::{Scope, Stretch};
 use rox_seen::seen_names::SeenNames;
 use rox_starts::tag::element_of;
-use rox_verbatim::quick_name::name_of_part;
+use rox_verbatim::quick_name::NamePlace;
 use std::alloc::AllocError;
 
 /// Reads a start tag, from its `<`, of a child of the root node, if it is plain. It is in line, as its result would be moved
@@ -36,17 +35,14 @@ fn root_tag<'input>(
 {
     let name_start = after_byte(text, start, b'<');
     let part = part_end(text, name_start);
-    let name = name_of_part(text, name_start, part)?;
-    if same_text(name.name.prefix, "xmlns") {
-        return None;
-    }
+    let name = tag_name(text, NamePlace { start, part })?;
     let from = elements.attributes.len();
     let scope = TagScope {
         scope: OWN,
         declares: true,
     };
     let end = tag_attributes(text, name.end, elements, scope, seen)?;
-    let namespace = namespace_in_scope(elements, name.name, name_start, OWN)?;
+    let namespace = namespace_in_scope(elements, name.name, OWN)?;
     let element = element_of(elements, name.name.local, from, OWN, namespace);
     let tag = StartTag {
         name: name.name,

@@ -16,5 +16,5 @@ returns-then-has_prefix c = record {
       let o = c.args.parent.now in
       let name = c.args.name in
       let same : (open_name o).prefix ≡ name.prefix.now = c.has_prefix.ensures c.if-has_prefix.true in
-      named_by (map namespace_view t.namespaces.items.items) (scope_in_tables t o.scope) (name_view name) (numbered_place o.namespace) (numbered_some o.namespace c.if-above-ne0.true) (rw same at c.requires.parent.is);
+      named_by (map namespace_view t.namespaces.items.items) (scope_in_tables t o.scope) (name_view name) (numbered_place o.namespace) (numbered_some o.namespace c.if-above-ne0.true) (rw same at c.requires.below.parent.is);
 }

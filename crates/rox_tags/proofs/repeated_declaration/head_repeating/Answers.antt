@@ -1,4 +1,3 @@
-use Rattle.std.proofs.Common.{sym, ◌∙◌}
 use Rattle.rox_tags.proofs.Repeating.{begins_repeating}
 use Rattle.rox_tags.proofs.repeated_declaration.head_repeating.Goals as goal
 
@@ -10,8 +9,8 @@ returns c =
       own = _;
       begins = begins_repeating c.args.elements.now c.args.parent.now c.args.text.now c.in_ok-name.name.end one c.in_ok-scope.scope below c.in_ok-scope.ensures c.in_ok-one.ensures;
       cut = c.in_ok-one.ensures.read.plain.cut;
-      named = rw c.after_byte-name_start.ensures.place at c.in_ok-name.ensures.value;
-      other = sym c.same_text.ensures ∙ c.if-same_text.false;
+      named = c.in_ok-name.ensures.name.value;
+      other = c.in_ok-name.ensures.other;
       space = c.in_ok-namespace.ensures.is;
       known = c.in_ok-namespace.ensures.known;
       few = below.few;

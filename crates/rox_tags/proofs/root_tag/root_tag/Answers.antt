@@ -1,14 +1,10 @@
-use Rattle.std.proofs.Common.{◌≡◌, ◌+◌, false, bytes_eq, refl, sym, ◌∙◌, arith, Ok, length-append}
-use Rattle.rox_grammar.specs.declared.fault.Word.TheVariants.{Xmlns}
-use Rattle.rox_grammar.specs.FixedTexts.{word_text}
-use Rattle.rox_grammar.specs.Failures.{name_view}
-use Rattle.rox_reading.specs.Lexical.{qname_at}
+use Rattle.std.proofs.Common.{refl, arith, length-append}
 use Rattle.rox_tags.proofs.TagAttributes.{has_scope}
 use Rattle.rox_tags.proofs.RootTags.{root_tagged}
 use Rattle.rox_tags.proofs.root_tag.root_tag.Goals as goal
 
 pub tag_attributes-requires : goal.tag_attributes-requires
-tag_attributes-requires c = record { cut = c.in_ok-name.ensures.cut; short = c.requires.short; begins = (c.requires.begins, refl) }
+tag_attributes-requires c = record { cut = c.in_ok-name.ensures.name.cut; short = c.requires.short; begins = (c.requires.begins, refl) }
 
 pub namespace_in_scope-requires : goal.namespace_in_scope-requires
 namespace_in_scope-requires c = grind (arith, has_scope)
@@ -26,9 +22,7 @@ returns c =
     let end = c.in_ok-end.ensures in
     let start = c.after_byte-name_start.ensures.place in
     let named = c.in_ok-namespace.ensures in
-    let is : qname_at src (i + 1) ≡ Ok (name_view name.name, name.end) = rw start at c.in_ok-name.ensures.value in
-    let other : bytes_eq (name_view name.name).prefix (word_text Xmlns) ≡ false = sym c.same_text.ensures ∙ c.if-same_text.false in
     record {
-      read = λ blank none same. root_tagged blank old new src i name.end c.in_ok-end.end.at _ c.len-from.result c.in_ok-namespace.namespace none same end.read is other start refl c.element_of-element.ensures c.len-from.ensures end.few named.is named.known end.cut;
+      read = λ blank none same. root_tagged blank old new src i name.end c.in_ok-end.end.at _ c.len-from.result c.in_ok-namespace.namespace none same end.read c.in_ok-name.ensures.name.value c.in_ok-name.ensures.other start refl c.element_of-element.ensures c.len-from.ensures end.few named.is named.known end.cut;
       grown = record { more = end.grown.more; rows = end.grown.rows };
     }
