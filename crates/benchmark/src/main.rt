@@ -8,6 +8,7 @@ use rox_measures::arguments::{Command, USAGE, read};
 use rox_measures::fault::Fault;
 use rox_measures::run;
 use rox_programs::arguments::words;
+use std::env;
 use std::io::Write;
 use std::process::ExitCode;
 
@@ -25,7 +26,7 @@ fn main(rt: HostRuntime) -> ExitCode {
 
 // The command of the program's arguments. One that is not UTF-8 is a wrong argument.
 fn asked_for(rt: &HostRuntime) -> Result<Option<Command>, Fault> {
-    match words(rt)? {
+    match words(rt.alloc(), env::args(rt))? {
         Some(words) => Ok(read(&words)?),
         None => Ok(None),
     }

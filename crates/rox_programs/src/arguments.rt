@@ -1,20 +1,25 @@
 //! The arguments of a program.
 
-ghost use Rattle.std.specs.Prelude.{◌≡◌, IfErr};
+ghost use Rattle.std.specs.Prelude.{◌≡◌, IfErr, IfOk, drop, option_map};
+ghost use Rattle.std.specs.Result.{result_ok};
+ghost use Rattle.std.specs.Vec.Iter.{into_iter_items};
 ghost use Rattle.rox_programs.specs.declared.program_error.ProgramError.TheVariants.{OutOfMemory};
 
 use crate::program_error::ProgramError;
-use std::env;
-use std::io::ErrorKind;
+use std::alloc::Global;
+use std::env::Args;
+use std::io;
 
-/// Returns the words after the program's name, or `None` if one of the arguments is not UTF-8. Fails with `OutOfMemory` if memory
-/// runs out, and with no other error.
-pub fn words(rt: &HostRuntime) -> Result<Option<Vec<String>>, ProgramError>
-    ensures { IfErr result (λ e. e ≡ OutOfMemory) }
+/// Returns the words after the program's name, if `given` is what `env::args` returned, or `None` if one of the arguments is not
+/// UTF-8. Fails with `OutOfMemory` if memory runs out, and with no other error.
+pub fn words(alloc: Global, given: io::Result<Args>) -> Result<Option<Vec<String>>, ProgramError>
+    ensures words { IfOk result (λ r. option_map (λ v. v.items) r
+        ≡ option_map (λ a. drop 1 (into_iter_items a)) (result_ok given)) }
+    ensures memory { IfErr result (λ e. e ≡ OutOfMemory) }
 {
-    match env::args(rt) {
-        Ok(words) => Ok(Some(words.skip(1).collect(rt.alloc())?)),
-        Err(error) if error.kind() == ErrorKind::OutOfMemory => Err(ProgramError::OutOfMemory),
+    match given {
+        Ok(arguments) => Ok(Some(arguments.skip(1).collect(alloc)?)),
+        Err(error) if error.kind() == io::ErrorKind::OutOfMemory => Err(ProgramError::OutOfMemory),
         Err(_) => Ok(None),
     }
 }

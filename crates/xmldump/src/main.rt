@@ -18,6 +18,7 @@ use rox_dump::arguments::{USAGE, command};
 use rox_dump::options::{AnswerWord, Command};
 use rox_programs::arguments::words;
 use rox_programs::program_error::ProgramError;
+use std::env;
 use std::fs::File;
 use std::io::Write;
 use std::process::ExitCode;
@@ -35,7 +36,7 @@ fn main(rt: HostRuntime) -> ExitCode {
 
 // An argument that is not UTF-8 is wrong.
 fn run_words(rt: &HostRuntime) -> Result<u8, ProgramError> {
-    let Some(words) = words(rt)? else {
+    let Some(words) = words(rt.alloc(), env::args(rt))? else {
         return Ok(refuse(rt));
     };
     match command(rt.alloc(), &words)? {

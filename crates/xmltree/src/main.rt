@@ -13,6 +13,7 @@ use crate::arguments::{USAGE, command};
 use crate::options::Command;
 use rox_programs::arguments::words;
 use rox_programs::program_error::ProgramError;
+use std::env;
 use std::fs::File;
 use std::io::Write;
 use std::process::ExitCode;
@@ -31,7 +32,7 @@ fn main(rt: HostRuntime) -> ExitCode {
 
 // The command of the program's arguments. One that is not UTF-8 is a wrong argument.
 fn asked_for(rt: &HostRuntime) -> Result<Option<Command>, ProgramError> {
-    match words(rt)? {
+    match words(rt.alloc(), env::args(rt))? {
         Some(words) => Ok(command(rt.alloc(), &words)?),
         None => Ok(None),
     }
