@@ -4,4 +4,3 @@
 pub mod quick_content;
 pub mod quick_elements;
 pub mod quick_root;
-pub mod same_front;

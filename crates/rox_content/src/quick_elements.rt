@@ -10,10 +10,10 @@ ghost use Rattle.rox_sections.specs.PlainOutcomes.{MayReadEnd, MayReadFirst, May
 ghost use Rattle.rox_content.specs.PlainElements.{MayPutElement, MayReadHead, PutsElement};
 ghost use Rattle.rox_bytes.specs.ByteSets.{StopsSet, is_part_byte};
 
-use crate::same_front::closes_front;
 use rox_builder::builder::Builder;
 use rox_bytes::byte_set::{RunEnd, part_end_beyond};
 use rox_bytes::runs::{after_byte, is_at};
+use rox_compare::same_front::closes_front;
 use rox_rows::row::NodeKind;
 use rox_scan::cursor::Cursor;
 use rox_sections::quick_sections::{MOST_BYTES, NOT_READ};

@@ -2,7 +2,7 @@
 
 ghost use Rattle.std.specs.Prelude.{◌≡◌, ◌<◌, ℕ, slice_index, ◌≤◌, true, length, take};
 
-use rox_compare::compare::same_long;
+use crate::compare::same_long;
 use std::simd::prelude::*;
 
 /// Returns how many of the first sixteen bytes come before one that differs, or more than sixteen if none differs.

@@ -1,6 +1,6 @@
 use Rattle.std.proofs.Common.{◌≡◌, length, take, sym, ◌∙◌, refl, arith, length-take, get_or-take}
-use Rattle.rox_content.proofs.SameBytes.{agree_before}
-use Rattle.rox_content.proofs.same_front.same_count.Goals as goal
+use Rattle.rox_compare.proofs.SameBytes.{agree_before}
+use Rattle.rox_compare.proofs.same_front.same_count.Goals as goal
 
 pub returns : goal.returns
 returns c = λ k few below.
