@@ -1,5 +1,5 @@
 -- How the result of a step that takes memory relates to what the grammar reads.
-use Rattle.std.specs.Prelude.{◌≡◌, Result, Ok, Err}
+use Rattle.std.specs.Prelude.{◌≡◌, Result, Err}
 use Rattle.rox_grammar.specs.declared.failure.Failure.{Failure}
 use Rattle.rox_grammar.specs.declared.failure.Failure.TheVariants as failure
 use Rattle.rox_grammar.specs.declared.fault.Fault.{Fault}
@@ -14,8 +14,3 @@ name_view q = record { prefix = q.prefix.now; local = q.local.now }
 abbrev pub Fails : {B : Type 0} → Failure → Result B Fault → Type 0
 Fails failure.Memory read = Unit {0}
 Fails (failure.Fault f) read = read ≡ Err f
-
--- The result, as `view` shows it, is what is read, unless memory ran out.
-abbrev pub Gives : {A B : Type 0} → (A → B) → Result A Failure → Result B Fault → Type 0
-Gives view (Ok x) read = read ≡ Ok (view x)
-Gives view (Err e) read = Fails e read
