@@ -29,19 +29,6 @@ fine_same b u fine tables opens = rw (tables, opens) fine
 pub keeps_same : (b u : Builder) → u ≡ b → KeepsState b u
 keeps_same b u same = rw same (keeps_all b)
 
-pub runs_not : (such : machine.Context → Type 0) (src : List ℕ) (i j : ℕ) (b u : Builder) → 2 ^ 32 ≤ j → KeepsState b u → u.tables ≡ b.tables → u.opened ≡ b.opened → ReadsRunAt such src i j b u
-runs_not such src i j b u not_read kept tables opened = record {
-  value = λ less. absurd (omega (arith, less, not_read));
-  other = λ _. kept;
-  cut = λ less. absurd (omega (arith, less, not_read));
-  ready = λ less. absurd (omega (arith, less, not_read));
-  moves = λ less. absurd (omega (arith, less, not_read));
-  tables = tables;
-  opened = opened;
-  rows = λ less. absurd (omega (arith, less, not_read));
-  behind = λ less. absurd (omega (arith, less, not_read));
-}
-
 pub reads_not : (read : machine.Context → List ℕ → State → Result State Refusal) (src : List ℕ) (i j : ℕ) (b u : Builder) → 2 ^ 32 ≤ j → KeepsState b u → IsConsistent u.tables u.opened.items → ReadsAt read src i j b u
 reads_not read src i j b u not_read kept fine = record {
   value = λ less. absurd (omega (arith, less, not_read));

@@ -1,5 +1,5 @@
 -- A step at `<![CDATA[`, and a fast path that reads nothing.
-use Rattle.std.proofs.Common.{◌≡◌, ◌≤◌, ◌+◌, ◌^◌, ℕ, true, false, List, length, slice_index, leb, refl, ap, ◌∙◌, arith, subst}
+use Rattle.std.proofs.Common.{◌≡◌, ◌+◌, ℕ, true, false, List, length, slice_index, leb, refl, ap, ◌∙◌, arith, subst}
 use Rattle.std.proofs.lemmas.Bool.{lt-leb}
 use Rattle.rox_grammar.specs.declared.fault.Word.TheVariants as word
 use Rattle.rox_grammar.specs.FixedTexts.{word_text}
@@ -8,9 +8,6 @@ use Rattle.rox_bytes.proofs.MarkLemmas.{fails, stands_fits, stands_reads}
 use Rattle.rox_reading.specs.Machine.{Context, cdata_step, instruction_step, step}
 use Rattle.rox_reading.specs.Refusals.{lifted}
 use Rattle.rox_reading.specs.State.{State}
-use Rattle.rox_builder.specs.BuilderState.{IsConsistent}
-use Rattle.rox_sections.specs.PlainOutcomes.{ReadsSection}
-use Rattle.rox_builder.specs.declared.builder.Builder.{Builder}
 
 -- `<![CDATA[` starts a CDATA section.
 pub step_is_section : (context : Context) (src : List ℕ) (s : State) (i : ℕ) → i ≡ s.at → stands (word_text word.CDataStart) src i ≡ true → step context src s ≡ lifted (cdata_step context.limit src s)
@@ -33,15 +30,3 @@ step_is_instruction context src s i e instruction =
     let x : slice_index src s.at ≡ 60 = ap (slice_index src) (omega arith) ∙ stands_reads mark src s.at 0 l (omega arith) in
     let k : leb (length src) (s.at + 1) ≡ false = lt-leb (length src) (s.at + 1) (omega (arith, stands_fits mark src s.at (omega arith) l)) in
     rw (x, k, (stands_reads mark src s.at 1 l (omega arith))) refl
-
--- Nothing was read.
-pub section_not : (src : List ℕ) (i j : ℕ) (b : Builder) → 2 ^ 32 ≤ j → IsConsistent b.tables b.opened.items → ReadsSection src i j b b
-section_not src i j b not_read fine = record {
-  value = λ less. absurd (omega (arith, less, not_read));
-  other = λ _. refl;
-  cut = λ less. absurd (omega (arith, less, not_read));
-  ready = λ less. absurd (omega (arith, less, not_read));
-  apart = λ less. absurd (omega (arith, less, not_read));
-  moves = λ less. absurd (omega (arith, less, not_read));
-  fine = fine;
-}

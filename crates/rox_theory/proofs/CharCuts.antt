@@ -1,11 +1,9 @@
 -- Where stretches of Chars are joined and cut, and the Chars of references.
-use Rattle.std.proofs.Common.{◌≡◌, ℕ, zero, suc, ◌+◌, ◌-◌, ◌<◌, ◌≤◌, Bool, true, ◌||◌, ◌&&◌, leb, ltb, List, [], ◌∷◌, length, take, drop, refl, sym, ap, ◌∙◌, subst, arith, inl, inr, ◌⊎◌, chars, IsUtf8, IsCharBoundary}
-use Rattle.std.specs.List.{list_all, list_any}
-use Rattle.std.proofs.lemmas.Bool.{and_parts, or_cases, leb-true}
+use Rattle.std.proofs.Common.{◌≡◌, ℕ, zero, suc, ◌+◌, ◌-◌, ◌<◌, ◌≤◌, Bool, true, ◌||◌, ◌&&◌, leb, ltb, List, [], ◌∷◌, length, take, drop, refl, sym, ap, ◌∙◌, subst, arith, inl, ◌⊎◌, chars, IsUtf8, IsCharBoundary}
 use Rattle.std.proofs.lemmas.Bool.Decides.{nat_tests}
 use Rattle.std.proofs.lemmas.List.{drop-take}
 use Rattle.std.proofs.lemmas.Str.{encodes-chars}
-use Rattle.rox_grammar.specs.Chars.{is_between, is_char, is_name_start, is_name_char}
+use Rattle.rox_grammar.specs.Chars.{is_char, is_name_start, is_name_char}
 use Rattle.rox_grammar.specs.Runs.{run_end}
 use Rattle.rox_grammar.proofs.Passing.{all_passing}
 use Rattle.rox_grammar.specs.Names.{byte, slice}
@@ -65,19 +63,6 @@ allowed c some k = grind arith
 -- A range of such numbers.
 fine_range : ℕ × ℕ → Bool
 fine_range r = leb 32 r.0 && (ltb r.1 0xFFFE || ltb 0xFFFF r.0)
-
--- What is in one of them is a Char.
-in_ranges : (c : ℕ) (rs : List (ℕ × ℕ)) → list_all fine_range rs ≡ true → list_any (λ r. is_between r.0 r.1 c) rs ≡ true → is_char c ≡ true
-unfolding fine_range
-in_ranges c [] all h = cc h
-in_ranges c (r ∷ rs) all h =
-    let both = and_parts (leb 32 r.0 && (ltb r.1 0xFFFE || ltb 0xFFFF r.0)) (list_all fine_range rs) all in
-    let fine = and_parts (leb 32 r.0) (ltb r.1 0xFFFE || ltb 0xFFFF r.0) both.0 in
-    let from = leb-true 32 r.0 fine.0 in
-    elim (or_cases (is_between r.0 r.1 c) (list_any (λ r. is_between r.0 r.1 c) rs) h) as (λ s. is_char c ≡ true) [
-      | inl here ↦ grind arith
-      | inr later ↦ in_ranges c rs both.1 later
-    ]
 
 -- Each character of a name is a Char.
 pub name_char : (c : ℕ) → is_name_char c ≡ true → is_char c ≡ true

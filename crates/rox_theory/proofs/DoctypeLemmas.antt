@@ -310,10 +310,6 @@ if_sound src i x h =
     let e : i ≡ x.1 = ap (λ p. p.1) (ok_same _ _ h) in
     subst (MayHaveExternalID src i) e (no_external_id i both.0 both.1))
 
--- The word of an external id is where one does.
-external_word : (src : List ℕ) (i : ℕ) (request : Request) (j : ℕ) → IsExternalID src i request j → (at word.System src i || at word.Public src i) ≡ true
-external_word src i request j h = grind arith
-
 pub if_complete : (src : List ℕ) (i j : ℕ) → IsUtf8 src → MayHaveExternalID src i j → external_id_if src i ≡ Ok (tt, j)
 unfolding external_id_if
 if_complete src i j h k = grind (arith, external_complete)

@@ -2,7 +2,7 @@
 use Rattle.std.proofs.Common.{arith, ap, length-append, encode_utf8}
 use Rattle.std.proofs.lemmas.Str.{length-encode}
 use Rattle.std.proofs.lemmas.Bool.{cond_both}
-use Rattle.std.specs.Prelude.{◌≡◌, ℕ, zero, suc, ◌+◌, ◌-◌, ◌≤◌, Bool, true, false, List, [], ◌∷◌, Option, Some, None, length, take, drop, refl}
+use Rattle.std.specs.Prelude.{◌≡◌, ℕ, zero, suc, ◌+◌, ◌-◌, ◌≤◌, Bool, true, false, List, [], ◌∷◌, length, take, drop, refl}
 use Rattle.rox_grammar.specs.Written.{Item}
 use Rattle.rox_grammar.specs.Chars.{is_name_char}
 use Rattle.rox_grammar.specs.declared.fault.Word.TheVariants as word
@@ -14,8 +14,6 @@ use Rattle.rox_grammar.specs.Runs.{first_passes}
 use Rattle.rox_grammar.specs.Content.{DataByte, is_literal, data_bytes_of, line_ends, value_bytes, Part, part_ends, as_written, from_reference, TagEnds, IsMisc}
 use Rattle.rox_theory.proofs.Productions.{ncname_parts, reference_parts, cdata_parts}
 use Rattle.rox_theory.proofs.Basics.{run_end_le, mark_from_le}
-
--- ---- characters
 
 -- ---- line ends
 
@@ -39,10 +37,6 @@ take_short (suc n) (b ∷ bs) = let h = take_short n bs in omega (arith, h)
 
 pub slice_short : (src : List ℕ) (i j : ℕ) → length (slice src i j) ≤ j - i
 slice_short src i j = take_short (j - i) (drop i src)
-
-abbrev some_or : Option ℕ → ℕ
-some_or None = 0
-some_or (Some c) = c
 
 pub reference_onward : (src : List ℕ) (i n j : ℕ) → IsReference src i n j → i + 2 ≤ j
 reference_onward src i n j is = let h = run_end_le is_name_char src (i + 1) in omega (arith, h, (reference_parts is).name.longest, (reference_parts is).next)

@@ -1,5 +1,5 @@
 -- At most one start tag is at a place, whatever the limits are, where as many texts may be opened.
-use Rattle.std.proofs.Common.{◌≡◌, ℕ, ◌<◌, Bool, cond, List, Ok, refl, sym, ap, subst, arith, IsUtf8}
+use Rattle.std.proofs.Common.{◌≡◌, ℕ, ◌<◌, Bool, List, Ok, refl, sym, ap, subst, arith, IsUtf8}
 use Rattle.rox_grammar.specs.Written.{Attribute, Tag}
 use Rattle.rox_grammar.specs.Names.{spaces_end}
 use Rattle.rox_grammar.specs.Content.{Inclusion, IsAttribute, Attributes, no_more, one_more, TagEnds, IsTag, start_tag}
@@ -9,10 +9,6 @@ use Rattle.rox_theory.specs.Openers.{AgreesValue}
 use Rattle.rox_theory.proofs.FailedReadings.{ok_one}
 use Rattle.rox_theory.proofs.NameLemmas.{qname_complete}
 use Rattle.rox_theory.proofs.AttributeLemmas.{AttributeReads, attribute_complete, more_complete, end_complete}
-
--- The end of a tag is not an attribute.
-pub apart : (raw : RawAttribute) (x : Bool) → more raw ≡ cond x closed opened → ⊥
-apart raw x e = grind arith
 
 -- The attribute of a turn, or another.
 raw_of : RawAttribute → TagItem → RawAttribute

@@ -19,9 +19,6 @@ text_of_both (e ∷ es) fs q =
     text_of_first e (es ++ fs) q ∙ first_behind (bytes_eq e.name q) e.text (text_of (es ++ fs) q) (text_of es q) (text_of fs q) (text_of_both es fs q)
     ∙ ap (λ (a : Option Replacement). first_of a (text_of fs q)) (sym (text_of_first e es q))
 
-none_behind : {A : Type 0} (a : Option A) → first_of a None ≡ a
-none_behind a = grind arith
-
 -- a name that is declared already
 pub declared_again : (es : List Entity) (e : Entity) (q : List ℕ) → is_some (text_of es e.name) ≡ true → text_of (es ++ e ∷ []) q ≡ text_of es q
 declared_again es e q some = grind (arith, text_of_both, bytes_eq-Decides)

@@ -167,9 +167,6 @@ lone_put src old new stop i utf8 within before amp cr ascii next put =
 
 -- ---- several items
 
-pub no_data : (src old : List ℕ) (stop i : ℕ) → IsCharBoundary src i → PutsData src i stop old old i
-no_data src old stop i cut = record { reads = (stop - i, (omega arith, λ es. refl)); onward = omega arith; cut = cut }
-
 pub more_data : (src old mid new : List ℕ) (stop i j n : ℕ) → j < stop → PutsData src i stop old mid j → PutsOneDatum src j stop mid new n → PutsData src i stop old new n
 more_data src old mid new stop i j n before p b =
     let low = p.onward in

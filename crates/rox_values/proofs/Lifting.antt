@@ -2,7 +2,6 @@
 use Rattle.std.proofs.Common.{◌≡◌, Result, Ok, Err, arith}
 use Rattle.rox_grammar.specs.declared.fault.Fault.{Fault}
 use Rattle.rox_reading.specs.Refusals.{Refusal, here, lifted}
-use Rattle.rox_grammar.specs.Failures.{Fails}
 use Rattle.rox_grammar.specs.declared.failure.Failure.{Failure}
 use Rattle.rox_values.specs.Refusals.{IsFailure, IsRefusal, of_failure}
 
@@ -11,9 +10,6 @@ lifted_ok r x h = grind arith
 
 pub lifted_err : {A : Type 0} (r : Result A Fault) (f : Fault) → lifted r ≡ Err (here f) → r ≡ Err f
 lifted_err r f h = grind arith
-
-pub refuses : {A : Type 0} (e : Failure) (r : Result A Fault) → Fails e r → IsFailure e (lifted r)
-refuses e r h = grind arith
 
 pub refused_too : {A : Type 0} (e : Failure) (r : Result A Refusal) → IsFailure e r → IsRefusal (of_failure e) r
 refused_too e r h = grind arith

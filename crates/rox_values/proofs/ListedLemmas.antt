@@ -1,5 +1,5 @@
 -- What a list has of a map stays so where the map gets another entity, and the list one that the map has.
-use Rattle.std.proofs.Common.{◌≡◌, ◌<◌, ℕ, zero, suc, Bool, false, cond, List, [], ◌∷◌, ◌++◌, Option, Some, Result, length, get_or, bytes_eq, arith, Bor}
+use Rattle.std.proofs.Common.{◌≡◌, ◌<◌, ℕ, zero, suc, Bool, false, cond, List, [], ◌∷◌, ◌++◌, Some, Result, length, get_or, bytes_eq, arith, Bor}
 use Rattle.std.specs.Prelude.{OnOk, OnErr, is_some, if◌then◌else◌}
 use Rattle.std.specs.BTreeMap.{BTreeMap, get_by}
 use Rattle.std.proofs.lemmas.Slice.Eq.{bytes_eq-Decides}
@@ -22,9 +22,6 @@ one_more texts (y ∷ ys) x h held (suc i) d more = one_more texts ys x (λ j e 
 -- it is put behind the others, or they stay
 pub listed_more : (b : Bool) (texts : BTreeMap (ℕ × Bor (List ℕ)) Cursor) (ds : List Declared) (x : Declared) → AreHeld texts ds → IsHeld texts x → AreHeld texts (if b then ds ++ x ∷ [] else ds)
 listed_more b texts ds x h held = grind (arith, one_more)
-
-none_is : {A : Type 0} (o : Option A) (x : A) → is_some o ≡ false → o ≡ Some x → ⊥
-none_is o x h e = cc
 
 -- another name is put into the map
 pub another_put : (b : Bool) (name q : List ℕ) (texts : BTreeMap (ℕ × Bor (List ℕ)) Cursor) (text t : Cursor) → b ≡ bytes_eq name q → is_some (get_by (named_cmp name) texts) ≡ false → get_by (named_cmp q) texts ≡ Some t

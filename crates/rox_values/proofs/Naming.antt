@@ -1,5 +1,5 @@
 -- A name that is held behind its code is found by the code and the name, and no other is.
-use Rattle.std.proofs.Common.{◌≡◌, ℕ, Bool, true, false, ◌&&◌, ◌==◌, List, refl, bytes_eq, arith}
+use Rattle.std.proofs.Common.{◌≡◌, ℕ, false, ◌&&◌, ◌==◌, List, refl, bytes_eq, arith}
 use Rattle.std.proofs.lemmas.Bool.Decides.{nat_tests}
 use Rattle.std.proofs.lemmas.Map.Text.{is_eq-slice_cmp}
 use Rattle.std.proofs.lemmas.Slice.Eq.{bytes_eq-Decides}
@@ -13,12 +13,6 @@ both_tie r s = grind arith
 
 codes_tie : (x y : ℕ) → is_eq (nat_cmp x y) ≡ (x == y)
 codes_tie x y = grind (arith, nat_tests)
-
-neither : (b : Bool) → (b && false) ≡ false
-neither b = grind arith
-
-both : (b c : Bool) → b ≡ true → (b && c) ≡ c
-both b c h = cc
 
 names_tie : (x y : ℕ) (name held : List ℕ) → is_eq (ordering_then (nat_cmp x y) (slice_cmp nat_cmp name held)) ≡ ((x == y) && bytes_eq name held)
 names_tie x y name held = rw (both_tie (nat_cmp x y) (slice_cmp nat_cmp name held), codes_tie x y, is_eq-slice_cmp name held) refl

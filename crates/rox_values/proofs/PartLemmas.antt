@@ -20,17 +20,11 @@ appended front v read = grind (arith, append_assoc)
 pub pair_ok : {A B E : Type 0} (x y : A) (b c : B) → ◌≡◌ {A = Result (A × B) E} (Ok (x, b)) (Ok (y, c)) → (x ≡ y) × (b ≡ c)
 pair_ok {A = A} {B = B} x y b c h = let k : ◌≡◌ {A = A × B} (x, b) (y, c) = cc in (ap (λ p. p.0) k, ap (λ p. p.1) k)
 
-bytes_same : (xs ys : List ℕ) → bytes_of xs ≡ bytes_of ys → xs ≡ ys
-bytes_same xs ys h = cc h
-
 pub fault_behind : {A E : Type 0} (front : List ℕ) (read : Result (List ℕ × A) E) (f : E) → text_behind front read ≡ Err f → read ≡ Err f
 fault_behind front read f h = grind arith
 
 nothing_behind : {A E : Type 0} (front : List ℕ) (x : A) → ◌≡◌ {A = Result (List ℕ × A) E} (text_behind front (Ok ([], x))) (Ok (front, x))
 nothing_behind front x = ap (λ (xs : List ℕ). Ok (xs, x)) (append-nil front)
-
-apart : (t : Replacement) (xs : List ℕ) → opens t ≡ bytes_of xs → ⊥
-apart t xs h = cc h
 
 -- one bit, and what follows it
 joined : (front new : List ℕ) (j : ℕ) (read : Read Bit) (next : ℕ → Result (List ℕ × Next) Fault) → behind front read ≡ Ok (bytes_of new, j)

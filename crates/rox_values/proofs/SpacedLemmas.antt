@@ -1,10 +1,10 @@
 -- A value without references and without CR.
-use Rattle.std.proofs.Common.{◌≡◌, ◌≢◌, ℕ, zero, suc, ◌+◌, ◌-◌, ◌<◌, ◌≤◌, Bool, true, Option, IfSome, List, [], ◌∷◌, ◌++◌, Ok, length, map, take, set, get_or, slice_index, slice_range, inl, inr, refl, sym, ap, ◌∙◌, arith, IsUtf8, IsCharBoundary}
+use Rattle.std.proofs.Common.{◌≡◌, ◌≢◌, ℕ, zero, suc, ◌+◌, ◌-◌, ◌<◌, ◌≤◌, Bool, true, Option, IfSome, List, [], ◌∷◌, ◌++◌, Ok, length, map, take, get_or, slice_index, slice_range, inl, inr, refl, sym, ap, ◌∙◌, arith, IsUtf8, IsCharBoundary}
 use Rattle.std.specs.Prelude.{String, string_bytes}
 use Rattle.std.specs.declared.alloc.Global.{Global}
 use Rattle.std.proofs.lemmas.Bool.{cases_Bool, cases_lt, le-ltb, lt-ltb}
 use Rattle.std.proofs.lemmas.Bool.Decides.{nat_tests}
-use Rattle.std.proofs.lemmas.List.{drop_more, ext_get_or, get_or-set_other, get_or-set_same, get_or-take, length-map, length-set, length-take-le, map-append}
+use Rattle.std.proofs.lemmas.List.{drop_more, get_or-take, length-take-le, map-append}
 use Rattle.std.proofs.lemmas.Str.{IsCharBoundary-after_ascii}
 use Rattle.rox_grammar.specs.Entities.{Entity}
 use Rattle.rox_grammar.proofs.Stretches.{range_parts}
@@ -22,17 +22,6 @@ pub record SpacedUpTo (a b : List ℕ) (i : ℕ) : Type 0 where
   pub long : length b ≡ length a
   pub done : (k : ℕ) → k < i → get_or b k 0 ≡ spaced_byte (get_or a k 0)
   pub rest : (k : ℕ) → i ≤ k → get_or b k 0 ≡ get_or a k 0
-
-pub spaced_more : (a b : List ℕ) (i x : ℕ) → i < length b → x ≡ spaced_byte (get_or b i 0) → SpacedUpTo a b i → SpacedUpTo a (set b i x) (i + 1)
-spaced_more a b i x more is u = grind (arith, length-set, get_or-set_same, get_or-set_other)
-
-spaced_at : (a : List ℕ) (k : ℕ) → get_or (map spaced_byte a) k 0 ≡ spaced_byte (get_or a k 0)
-spaced_at [] k = refl
-spaced_at (x ∷ xs) zero = refl
-spaced_at (x ∷ xs) (suc k) = spaced_at xs k
-
-pub spaced_all : (a b : List ℕ) (i : ℕ) → length a ≤ i → SpacedUpTo a b i → b ≡ map spaced_byte a
-spaced_all a b i past u = ext_get_or 0 b (map spaced_byte a) (u.long ∙ sym (length-map a spaced_byte)) (λ k less. u.done k (omega (arith, less, past, u.long)) ∙ sym (spaced_at a k))
 
 -- ---- what is read of it
 

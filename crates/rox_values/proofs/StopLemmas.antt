@@ -1,5 +1,5 @@
 -- Why the items of a value end.
-use Rattle.std.proofs.Common.{◌≡◌, ◌≢◌, ℕ, ◌<◌, ◌≤◌, ◌==◌, ◌||◌, Bool, true, false, List, [], ◌∷◌, Option, IfNone, Result, Ok, Err, slice_index, refl, sym, ◌∙◌, arith, inl, inr}
+use Rattle.std.proofs.Common.{◌≡◌, ◌≢◌, ℕ, ◌==◌, ◌||◌, Bool, true, false, List, [], ◌∷◌, Option, IfNone, Result, Ok, Err, slice_index, refl, sym, ◌∙◌, arith, inl, inr}
 use Rattle.std.proofs.lemmas.Bool.{cases_eq}
 use Rattle.std.proofs.lemmas.Bool.Decides.{nat_tests}
 use Rattle.rox_reading.specs.Lexical.{Read, ◌>>=◌}
@@ -9,7 +9,7 @@ use Rattle.rox_grammar.specs.declared.fault.Fault.{Fault}
 use Rattle.rox_grammar.specs.declared.fault.Fault.TheVariants.{UnknownEntityReference}
 use Rattle.rox_grammar.specs.declared.fault.Span.{Span}
 use Rattle.rox_reading.specs.Values.{Bit, bytes_of, character_of, entity_at, is_special, reference_at, stretch_at, tested_bit, value_bit_at, value_reference_at}
-use Rattle.rox_values.specs.PlainBits.{GivesCharacter, GivesNoBytes, HasNoCharacter, StopsAtOne, depends_on_kind, may_be}
+use Rattle.rox_values.specs.PlainBits.{GivesNoBytes, HasNoCharacter, StopsAtOne, depends_on_kind, may_be}
 use Rattle.rox_values.specs.declared.plain_bits.TextKind.{TextKind}
 use Rattle.rox_values.specs.declared.plain_bits.TextKind.TheVariants as kind_of
 use Rattle.rox_values.proofs.BitLemmas.{stretch_is}
@@ -95,18 +95,6 @@ alike_none c h = elim (cases_eq c 60) [
   ]
 ]
 
-no_tag : (c : ℕ) → depends_on_kind c ≡ false → (c == 60) ≡ false
-no_tag c h = grind (arith, nat_tests)
-
-no_white : (c : ℕ) → depends_on_kind c ≡ false → (c == 9 || (c == 10 || c == 13)) ≡ false
-no_white c h = grind (arith, nat_tests)
-
-alike_read : (c i : ℕ) (main : Bool) → depends_on_kind c ≡ false → tested_bit main i (character_of c) (Ok (bytes_of (encode_utf8 c))) ≡ Ok (bytes_of (encode_utf8 c))
-alike_read c i main h = grind arith
-
-pub alike_gives : (c : ℕ) → depends_on_kind c ≡ false → GivesCharacter kind_of.Either c c
-alike_gives c h = λ main i may. alike_read c i main h
-
 pub inner_none : (kind : TextKind) (c : ℕ) (o : Option ℕ) → may_be kind false ≡ true → IfNone o (c ≡ 60) → IfNone o (HasNoCharacter kind c)
 inner_none kind c o may is = grind arith
 
@@ -115,9 +103,6 @@ pub stretch_stops : (src : List ℕ) (i stop : ℕ) (f : Fault) → is_special (
 stretch_stops src i stop f plain fails = λ given j reads. no_bytes false src i stop j f given (stretch_is false [] src stop i plain ∙ fails) (reads false [] refl)
 
 -- ---- one item
-
-pub item_put : (kind : TextKind) (src : List ℕ) (i stop len cap new_len new_cap j : ℕ) → cap ≤ new_cap → 0 < j → StopsAtOne kind src i stop len cap new_len new_cap j
-item_put kind src i stop len cap new_len new_cap j room some = record { room = room; same = λ zero. absurd (omega (arith, some, zero)); why = λ zero. absurd (omega (arith, some, zero)) }
 
 pub item_stops : (kind : TextKind) (src : List ℕ) (i stop len cap : ℕ) → GivesNoBytes kind src i stop → StopsAtOne kind src i stop len cap len cap 0
 item_stops kind src i stop len cap none = record { room = omega arith; same = λ zero. refl; why = λ zero more. none }
