@@ -145,16 +145,6 @@ lines_deep (inside start tag before up) = length-append (open_lines up) _ ∙ ap
 pub opened_deep : (end : ℕ) (o : Open) (done : Forest Item) (b : Builder) → Represents end o done b → length b.opened.items ≡ depth_of o
 opened_deep end o done b h = sym (length-map b.opened.items (opened (lists_in b.tables))) ∙ ap length h.open_rows ∙ lines_deep o
 
--- no element is open
-pub closed_at_root : (t : ElementTables) (o : Open) (i n j : ℕ) (name : Name) (done : Forest Item) (openings_left : ℕ) → opened_in t [] ≡ open_lines o → closed_by i name n j done o openings_left ≡ Err (fault.UnexpectedEntityCloseTag i)
-unfolding closed_by
-closed_at_root t root i n j name done openings_left h = refl
-closed_at_root t (inside start tag before up) i n j name done openings_left h = absurd (push_not_nil (open_lines up) _ (sym h))
-  where
-    push_not_nil : {A : Type 0} (xs : List A) (y : A) → xs ++ y ∷ [] ≡ [] → ⊥
-    push_not_nil [] y h = cc h
-    push_not_nil (x ∷ xs) y h = cc h
-
 -- what is kept of the innermost open element
 pub top_view : (t : ElementTables) (start : ℕ) (tag : Tag) (before : Forest Item) (up : Open) (outer : List OpenElement) (x : OpenElement) → opened_in t (outer ++ x ∷ []) ≡ open_lines (inside start tag before up)
     → opened (lists_in t) x ≡ tag_row (top up + 1 + size (merge before)) start tag (listed (scope_of up) tag.declarations)

@@ -1,6 +1,6 @@
 //! Comparison of bytes, sixteen at a time.
 
-ghost use Rattle.std.specs.Prelude.{◌≡◌, ◌<◌, ℕ, slice_index, ◌≤◌, true, length, take};
+ghost use Rattle.std.specs.Prelude.{◌≡◌, ◌<◌, ℕ, slice_index, ◌≤◌, true, false, eqb, length, take};
 
 use crate::compare::same_long;
 use std::simd::prelude::*;
@@ -10,7 +10,9 @@ use std::simd::prelude::*;
 fn same_count(one: &[u8], other: &[u8]) -> usize
     requires one { 16 ≤ length one.now }
     requires other { 16 ≤ length other.now }
-    ensures { (k : ℕ) → k < 16 → k < result → slice_index one.now k ≡ slice_index other.now k }
+    ensures same { (k : ℕ) → k < 16 → k < result → slice_index one.now k ≡ slice_index other.now k }
+    ensures differ { result < 16 → eqb (slice_index one.now result) (slice_index other.now result) ≡
+        false }
 {
     let differ = u8x16::from_slice(one)
         .simd_ne(u8x16::from_slice(other))
@@ -25,6 +27,8 @@ pub fn closes_front(one: &[u8], other: &[u8], count: usize) -> bool
     ensures same { result ≡ true → take count one.now ≡ take count other.now }
     ensures there { result ≡ true → count < length other.now }
     ensures closed { result ≡ true → slice_index other.now count ≡ 62 }
+    ensures only { count ≤ length one.now → take count one.now ≡ take count other.now
+        → count < length other.now → slice_index other.now count ≡ 62 → result ≡ true }
 {
     if count < 16 && one.len() >= 16 && other.len() >= 16 {
         return other[count] == b'>' && count <= same_count(one, other);

@@ -26,7 +26,7 @@ use Rattle.rox_reading.specs.State.{State, depth_of}
 use Rattle.rox_reading.specs.Lexical.{byte_at, space_at, quote_at, name_at, string_at, text_to, qname_at}
 use Rattle.rox_reading.specs.Markup.{comment_at, instruction_at, cdata_at, EndTag, end_tag_at, pair_at, gap_at, pair_if, xml_decl_at}
 use Rattle.rox_reading.specs.Values.{Next, data_part, part_text, raw_character_data_at, ReadText, value_at}
-use Rattle.rox_reading.specs.Machine.{Context, counted, with_item, comment_step, instruction_step, cdata_step, with_piece, at_place, after_part, data_parts, character_data_step, cut_off_fault, opened_by, tag_step, name_span, closed_by, end_step, step, drive, text_ends, drive_text, budget, values_of, opener, main_text}
+use Rattle.rox_reading.specs.Machine.{Context, counted, with_item, comment_step, instruction_step, cdata_step, with_piece, at_place, after_part, data_parts, character_data_step, opened_by, tag_step, name_span, closed_by, end_step, step, drive, text_ends, drive_text, budget, values_of, opener, main_text}
 use Rattle.rox_reading.specs.Doctype.{Reply, AreTextReplies, Asks, asks_nothing, ◌>>>◌, quoted_at, system_at, public_at, external_id_at, name_or_end_at, notation_at, Definition, definition_at, kind_at, entity_head_at, answer_text, Dtd, replied, defined, entity_step, skipped_declaration, with_state, subset_end, subset, external_id_if, doctype_head_at, doctype_step}
 use Rattle.rox_reading.specs.WholeText.{misc, body, finished, prolog, doctype, reading}
 use Rattle.rox_theory.specs.ValidState.{IsValidState, state}
@@ -230,10 +230,6 @@ module _ (src : List ℕ) (bottom : Open) where
       (λ h. spanned_cond src _ (at word.PIStart src t.at) _ _
       (λ h. spanned_bind src StateNamed _ (instruction_step limit src t) _ (instruction_step_spans limit t named) (λ u read more. misc_spans n limit u more))
       (λ h. record { holds = named }))
-
-  -- A tag that is cut off.
-  cut_off_spans : (main : Bool) (stack : Open) → NamesText src (cut_off_fault main stack)
-  cut_off_spans main stack = grind arith
 
   -- After a start tag with a name.
   opened_spans : (limit : ℕ) (s : State) (tag : Tag) (empty : Bool) (openings_left j : ℕ) → IsTextSpan src (name_span tag.name (s.at + 1) tag.name_end) → StateNamed s

@@ -19,7 +19,7 @@ use Rattle.rox_reading.specs.Refusals.{Refusal}
 use Rattle.rox_reading.specs.Lexical.{◌>>=◌, byte_at, quote_at, chars_up_to, qname_at}
 use Rattle.rox_reading.specs.Markup.{RawAttribute, raw_value_at, attribute_at, TagItem, more, opened, closed, tag_item_at}
 use Rattle.rox_reading.specs.Values.{ReadText, value_at}
-use Rattle.rox_reading.specs.Tags.{Values, TagSoFar, TagRest, TagRead, prefix_tested, default_tested, uri_tested, declared, taken, attribute_with, after_tag_item, attributes_at, names_tested, tested_at, tag_tested, tag_at}
+use Rattle.rox_reading.specs.Tags.{Values, TagSoFar, TagRest, TagRead, declared, taken, attribute_with, after_tag_item, attributes_at, names_tested, tested_at, tag_tested, tag_at}
 use Rattle.rox_reading.specs.Machine.{name_span}
 use Rattle.rox_theory.proofs.Basics.{chosen}
 use Rattle.rox_theory.proofs.AttributeLemmas.{RawStands, turn_sound}
@@ -131,18 +131,6 @@ named_more src [] a all one = (one, tt)
 named_more src (b ∷ as') a all one = (all.0, named_more src as' a all.1 one)
 
 -- ---- declarations
-
--- A declared prefix's fault has no name.
-prefix_well : (src : List ℕ) (a : Attribute) → FailsWell src (prefix_tested a)
-prefix_well src a = grind arith
-
--- Nor has that of the default.
-default_well : (src : List ℕ) (a : Attribute) → FailsWell src (default_tested a)
-default_well src a = grind arith
-
--- Nor that of either.
-uri_well : (src : List ℕ) (a : Attribute) → FailsWell src (uri_tested a)
-uri_well src a = well_if src (bytes_eq a.name.prefix (word_text word.Xmlns)) _ _ (prefix_well src a) (default_well src a)
 
 -- A declaration's fault.
 pub declared_spans : (src : List ℕ) (known : List NamespaceDecl) (a : Attribute) (h : TagSoFar) → Named src a → FailsWell src (declared known a h)

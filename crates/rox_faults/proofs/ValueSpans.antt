@@ -11,7 +11,7 @@ use Rattle.rox_grammar.specs.Names.{byte, slice}
 use Rattle.rox_grammar.specs.Entities.{Replacement, Entity, text_of}
 use Rattle.rox_reading.specs.Lexical.{◌>>=◌, chars_up_to}
 use Rattle.rox_reading.specs.Refusals.{Refusal, here, there, refused, lifted, elsewhere}
-use Rattle.rox_reading.specs.Values.{Reference, character_of, entity_at, number_at, named_or, name_reference_at, reference_at, Bit, bytes_of, opens as a_text, entity_bit, reference_bit, expansion_at, data_bit_at, Next, at_end, opening, after_bit, data_part, ReadText, is_special, tested_bit, value_reference_at, stretch_at, value_bit_at, ValueInclusion, after_value_bit, value_text, value_at}
+use Rattle.rox_reading.specs.Values.{Reference, character_of, entity_at, number_at, name_reference_at, reference_at, Bit, bytes_of, opens as a_text, entity_bit, reference_bit, expansion_at, data_bit_at, Next, at_end, opening, after_bit, data_part, ReadText, is_special, tested_bit, value_reference_at, stretch_at, value_bit_at, ValueInclusion, after_value_bit, value_text, value_at}
 use Rattle.rox_reading.specs.Machine.{budget, value_opener}
 use Rattle.rox_theory.specs.Openers.{AreTexts}
 use Rattle.rox_theory.proofs.Basics.{run_end_le}
@@ -103,10 +103,6 @@ module _ (src : List ℕ) (utf8 : IsUtf8 src) where
   number_spans : (base : ℕ) (is : ℕ → Bool) (i d : ℕ) → Spanned (Reference × ℕ) src (λ (r : Reference × ℕ). RefersTo src r.0) (number_at base is src i d)
   unfolding number_at
   number_spans base is i d = grind arith
-
-  -- An entity refers by its name.
-  named_spans : (c : Option ℕ) (span : Span) → IsTextSpan src span → RefersTo src (named_or c span)
-  named_spans c span is = grind arith
 
   -- The name after `&`.
   name_span_text : (i : ℕ) → byte src i ≡ 38 → IsTextSpan src (record { start = i + 1; end = run_end is_name_char src (i + 1) })

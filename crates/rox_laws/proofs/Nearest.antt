@@ -200,10 +200,6 @@ xml_in n tops id =
     let tree = document_tree n tops in
     undeclared xml (listed_of (place tree id).item) (at_each (λ node. HasNoXml (listed_of node)) tree (refl, all_no_xml [] tops refl, tt) refl id)
 
--- a node that is no element lists nothing
-listed_by_none : (node : Node) (p : Option (List ℕ)) → (is_element_node node ≡ true → ⊥) → uri_of (listed_of node) p ≡ None
-listed_by_none node p h = grind arith
-
 -- ---- the tree of a document, however it is given
 
 module _ (src : List ℕ) (tops : Forest Item) (tree : Forest Node) (shown : tree ≡ document_tree (length src) tops) where
@@ -216,6 +212,3 @@ module _ (src : List ℕ) (tops : Forest Item) (tree : Forest Node) (shown : tre
 
   pub xml_is_never_listed : (id : ℕ) → listed_uri tree id xml ≡ None
   xml_is_never_listed id = subst (λ (t : Forest Node). listed_uri t id xml ≡ None) (sym shown) (xml_in (length src) tops id)
-
-pub others_list_nothing : (tree : Forest Node) (id : ℕ) (p : Option (List ℕ)) → (IsElementAt tree id → ⊥) → listed_uri tree id p ≡ None
-others_list_nothing tree id = listed_by_none (place tree id).item

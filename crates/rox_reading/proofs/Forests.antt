@@ -183,18 +183,11 @@ fresh_text (Cons (PI x y t o) c r) = 1
 size-glue : (x y : ℕ) (w : List ℕ) (p : Bool) (b f : Forest Item) → size (glue (Text x y w p) b f) ≡ size b + size f + fresh_text f
 size-glue x y w p b f = grind (arith, size-join)
 
-fresh-glue : (x y : ℕ) (w : List ℕ) (p : Bool) (b f : Forest Item) → fresh_text (glue (Text x y w p) b f) ≡ 0
-fresh-glue x y w p b f = grind arith
-
 fresh-merge : (f : Forest Item) → fresh_text (merge f) ≡ fresh_text f
 fresh-merge f = grind arith
 
 fresh-join : (i : Item) (c r g : Forest Item) → fresh_text (join (Cons i c r) g) ≡ fresh_text (Cons i c r)
 fresh-join i c r g = grind arith
-
--- A row that begins with a text has an item.
-fresh_or_some : (f : Forest Item) → 1 ≤ size (merge f) + fresh_text f
-fresh_or_some f = grind arith
 
 -- More items never make fewer.
 pub merge-more : (f g : Forest Item) → size (merge f) ≤ size (merge (join f g))

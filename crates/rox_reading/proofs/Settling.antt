@@ -15,7 +15,7 @@ use Rattle.rox_grammar.specs.TextStart.{after_bom}
 use Rattle.rox_grammar.specs.Entities.{Replacement}
 use Rattle.rox_grammar.specs.Doctype.{Request, Asked, entry}
 use Rattle.rox_grammar.specs.State.{root}
-use Rattle.rox_reading.specs.Refusals.{Refusal, here, refused}
+use Rattle.rox_reading.specs.Refusals.{Refusal, here}
 use Rattle.rox_reading.specs.State.{State}
 use Rattle.rox_reading.specs.Lexical.{byte_at}
 use Rattle.rox_reading.specs.Machine.{at_place}
@@ -59,23 +59,10 @@ module _ (src : List ℕ) (d : Dtd) where
 
     -- One that is asked for.
     module _ (request : Request) (j : ℕ) (is : definition_at head.0.parameter src head.1 ≡ Ok (outer request, j)) where
-      pub resolver_stops : (message : List ℕ) → Stops entity_run [] (refused request j message)
-      unfolding entity_step
-      resolver_stops message more = rw (is_head, is) refl
-
-      pub answer_stops : (answer : Option (List ℕ)) (e : Refusal) → answer_text answer ≡ Err e → Stops entity_run (once request answer) e
-      unfolding entity_step
-      answer_stops answer e h more = rw (is_head, is, h) refl
-
       pub outer_read : (answer : Option (List ℕ)) (text : Option Replacement) (x : Unit {0}) (k : ℕ) → answer_text answer ≡ Ok text → byte_at 62 src (spaces_end src j) ≡ Ok (x, k)
           → Answered entity_run (once request answer) (declared_there d head.0 text k)
       unfolding entity_step
       outer_read answer text x k h h' more = rw (is_head, is, h, h') refl
-
-      pub outer_stops : (answer : Option (List ℕ)) (text : Option Replacement) (f : Fault) → answer_text answer ≡ Ok text → byte_at 62 src (spaces_end src j) ≡ Err f
-          → Stops entity_run (once request answer) (here f)
-      unfolding entity_step
-      outer_stops answer text f h h' more = rw (is_head, is, h, h') refl
 
 -- ---- a document type declaration
 

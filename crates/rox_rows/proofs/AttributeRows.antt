@@ -136,10 +136,6 @@ pub data_behind : (t : AttributeTable) (seen : List StoredAttribute) (old : List
     → map (λ (r : AttributeRow). r.0) (drop (length old) (attribute_rows t)) ≡ map data_of (slice_range seen from (length seen))
 data_behind t seen old from same at = subst (λ (n : ℕ). map (λ (r : AttributeRow). r.0) (drop n (attribute_rows t)) ≡ map data_of (slice_range seen from (length seen))) at (column_behind t seen from same)
 
--- rows that were there before more came are within it
-pub old_within : (t : AttributeTable) (seen : List StoredAttribute) (old more : List AttributeRow) (from : ℕ) → seen ≡ t.items.items → attribute_rows t ≡ old ++ more → from ≡ length old → from ≤ length seen
-old_within t seen old more from same grown at = grind (arith, length_rows, length-append)
-
 -- what holds of what each row is holds of each that is stored
 all_data : (P : AttributeData → Type 0) (us : List AttributePlaces) (xs : List StoredAttribute) → AllByRecursion (λ (r : AttributeRow). P r.0) (map (row_in us) xs) → AllByRecursion (λ (r : StoredAttribute). P (data_of r)) xs
 all_data P us [] h = tt
@@ -163,12 +159,7 @@ any_data P (x ∷ xs) = rw (any_data P xs) refl
 
 -- ---- one more row
 
--- of an attribute whose places follow from its start
-pub compact_row : (us : List AttributePlaces) (r : StoredAttribute) (item : AttributeData) (places : AttributePlaces) → data_of r ≡ item → r.before < 255
-    → r.place ≡ places.start → places ≡ compact_places places.start r.before (length item.local.now) (length (storage_bytes item.value)) → row_in us r ≡ (item, places)
-compact_row us r item places is few start follow = grind arith
-
--- and of another
+-- of an attribute whose places do not follow from its start
 pub explicit_row : (us : List AttributePlaces) (r : StoredAttribute) (item : AttributeData) (places : AttributePlaces) → data_of r ≡ item → r.before ≡ 255
     → r.place ≡ length us → row_in (us ++ places ∷ []) r ≡ (item, places)
 explicit_row us r item places is marked last = grind (arith, get_or-append_seam)

@@ -1,10 +1,9 @@
 -- The rows of nodes as their table stores them.
 use Rattle.std.specs.declared.mem.ManuallyDrop.{ManuallyDrop}
 use Rattle.rox_storage.specs.declared.storage.StringStorage.{StringStorage}
-use Rattle.std.proofs.Common.{◌≡◌, ℕ, zero, suc, ◌+◌, ◌*◌, ◌/◌, ◌^◌, ◌<◌, ◌≤◌, ◌==◌, ◌&&◌, if◌then◌else◌, Bool, true, false, List, [], ◌∷◌, ◌++◌, length, take, set, get_or, vec_len, length-append, refl, sym, ap, ◌∙◌, arith, Bor}
+use Rattle.std.proofs.Common.{◌≡◌, ℕ, zero, suc, ◌+◌, ◌^◌, ◌<◌, ◌≤◌, ◌==◌, ◌&&◌, if◌then◌else◌, Bool, true, false, List, [], ◌∷◌, ◌++◌, length, take, set, get_or, vec_len, length-append, refl, sym, ap, ◌∙◌, arith, Bor}
 use Rattle.std.proofs.lemmas.List.Folds.{list_all-append}
 use Rattle.std.proofs.lemmas.Bool.{and_parts}
-use Rattle.std.proofs.lemmas.List.{take_all, take_more}
 use Rattle.rox_rows.specs.declared.row.PI.{PI}
 use Rattle.rox_rows.specs.declared.row.NodeKind.{NodeKind}
 use Rattle.rox_rows.specs.declared.row.NodeKind.TheVariants as kind
@@ -239,10 +238,6 @@ count_nodes t = omega (arith, t.rows.ok.0, length_nodes t)
 pub lent_element : (k : KindRef) (e : ElementData) → kind_of k ≡ kind.Element e → k ≡ lent.Element e
 lent_element k e h = grind arith
 
--- the last of them apart
-pub split_last : {X : Type 0} (xs : List X) (n : ℕ) (x : X) → length xs ≡ n + 1 → x ≡ get_or xs n x → xs ≡ take n xs ++ x ∷ []
-split_last xs n x l e = sym (take_all (n + 1) xs (omega arith)) ∙ take_more xs n x (omega arith) ∙ ap (λ y. take n xs ++ y ∷ []) (sym e)
-
 -- some row
 pub a_row : StoredNode
 a_row = record { start = 0; end = 0; parent = 0; subtree_end = 0; kind = stored.Root }
@@ -270,12 +265,6 @@ high_is base pis high high' rows new h x row l eh e same is = grind (arith, whol
 pub low_row : (pis : List PI) (row : NodeData) (k : StoredKind) → whole_kind pis k ≡ row.kind
     → whole_row pis no_high (record { start = row.start; end = row.end; parent = row.parent; subtree_end = row.subtree_end; kind = k }) ≡ row
 low_row pis row k is = grind arith
-
--- the row, of its halves
-pub high_row : (pis : List PI) (row : NodeData) (k : StoredKind) (low_s low_e high_s high_e : ℕ) → row.start ≡ (row.start / 2 ^ 32) * 2 ^ 32 + low_s → row.end ≡ (row.end / 2 ^ 32) * 2 ^ 32 + low_e
-    → high_s ≡ row.start / 2 ^ 32 → high_e ≡ row.end / 2 ^ 32 → whole_kind pis k ≡ row.kind
-    → whole_row pis (record { start = high_s; end = high_e }) (record { start = low_s; end = low_e; parent = row.parent; subtree_end = row.subtree_end; kind = k }) ≡ row
-high_row pis row k low_s low_e high_s high_e ls le hs he is = grind arith
 
 -- an end written
 pub end_is : (t : NodeTable) (i low up n end len : ℕ) (d : NodeData) (high : List HighPlaces) (rows : List StoredNode) → length t.high.items ≤ length t.rows.items

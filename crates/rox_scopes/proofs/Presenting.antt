@@ -280,10 +280,7 @@ bound_here rows listed i item ds f g ok inside is h =
     let e : namespace_view (get_or rows place item) ≡ namespace_at namespaces place = sym (namespace_at-get rows place item here) in
     bound_more namespaces _ f g place (rw (length-map rows namespace_view) here) (λ p. is p ∙ ap (λ (d : NamespaceDecl). cond (same_prefix d.prefix p) (Some place) (f p)) e) h
 
--- from the back of these places on: none, one more, all
-pub bound_none : (namespaces : List NamespaceDecl) (places : List ℕ) (f : Places) → IsBound namespaces f [] → IsBound namespaces f (entries namespaces (drop (length places - 0) places))
-bound_none namespaces places f h =
-    subst (λ xs. IsBound namespaces f (entries namespaces xs)) (sym (drop_of_length-le places (omega arith))) h
+-- from the back of these places on: one more, all
 
 pub bound_from : (namespaces : List NamespaceDecl) (places : List ℕ) (turn : ℕ) (g : Places) (place : ℕ) → turn < length places → place ≡ get_or places (length places - 1 - turn) 0
     → IsBound namespaces g (namespace_at namespaces place ∷ entries namespaces (drop (length places - turn) places)) → IsBound namespaces g (entries namespaces (drop (length places - (turn + 1)) places))

@@ -100,11 +100,6 @@ are_more old new rows more row grown within sees seen = record {
   codes = λ _. seen_more old new rows more row grown within sees seen;
 }
 
--- before the first
-pub seen_first : (seen : SeenNames) (rows : List AttributeRow) → seen.from ≡ length rows → HaveCodes seen rows
-seen_first seen rows from =
-    subst (AllByRecursion (λ (a : AttributeRow). HasNameOf seen.codes a.0)) (sym (drop_of_length-le rows (omega arith))) tt
-
 -- where the codes and the tag stay
 pub seen_kept : (seen after : SeenNames) (rows : List AttributeRow) → KeepsCodes seen after → AreSeen seen rows → AreSeen after rows
 seen_kept seen after rows k h = record {

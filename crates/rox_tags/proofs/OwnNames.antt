@@ -1,5 +1,5 @@
 -- Names of declarations, which begin with `xmlns`.
-use Rattle.std.proofs.Common.{◌≡◌, ℕ, zero, suc, ◌+◌, ◌-◌, ◌<◌, true, false, List, Option, Ok, get_or, slice_index, refl, sym, ap, ◌∙◌, arith, IfSome, IsUtf8, IsCharBoundary, get_or-drop}
+use Rattle.std.proofs.Common.{◌≡◌, ℕ, zero, suc, ◌+◌, ◌-◌, ◌<◌, true, false, List, Ok, get_or, slice_index, refl, sym, ap, ◌∙◌, arith, IsUtf8, IsCharBoundary, get_or-drop}
 use Rattle.rox_grammar.specs.Chars.{is_name_char, is_name_start, is_part_char}
 use Rattle.rox_grammar.specs.FixedTexts.{word_text}
 use Rattle.rox_grammar.specs.Written.{Name, is_namespace_decl}
@@ -7,9 +7,8 @@ use Rattle.rox_grammar.specs.declared.fault.Word.TheVariants.{Xmlns}
 use Rattle.rox_reading.specs.Lexical.{qname_at}
 use Rattle.rox_bytes.specs.ByteSets.{AllPass, is_part_byte}
 use Rattle.rox_bytes.proofs.NearLemmas.{part_begins, part_stops}
-use Rattle.rox_verbatim.specs.PlainNames.{EndsFirstPart, IsPrefixedName}
-use Rattle.rox_tags.specs.TagAttributes.{IsDeclaredName, HasXmlns}
-use Rattle.rox_verbatim.specs.declared.quick_name.NameAt.{NameAt}
+use Rattle.rox_verbatim.specs.PlainNames.{EndsFirstPart}
+use Rattle.rox_tags.specs.TagAttributes.{HasXmlns}
 use Rattle.rox_markup.proofs.PairLemmas.{name_is}
 
 -- the bytes of `xmlns`
@@ -53,11 +52,6 @@ colon_stops = refl
 pub equals_stops : is_part_byte 61 ≡ false
 unfolding is_part_byte is_part_char is_name_char is_name_start
 equals_stops = refl
-
--- a name with this prefix is that of a declaration
-pub declares_prefix : (src : List ℕ) (i : ℕ) (r : Option NameAt) → HasXmlns src i
-    → IfSome r (λ n. IsPrefixedName src i (i + 5) n) → IfSome r (λ n. IsDeclaredName src i n)
-declares_prefix src i r h read = grind arith
 
 one_name : (src : List ℕ) (i j k : ℕ) (m n : Name) → qname_at src i ≡ Ok (m, j) → qname_at src i ≡ Ok (n, k) → m ≡ n
 one_name src i j k m n one other = grind arith

@@ -86,9 +86,6 @@ module _ (src : List ℕ) (p : ℕ) (name : List ℕ) (d : Dtd) where
       → Settled (λ rs. defines (outer request) rs) (((record { request = request; answer = answer } ∷ [], text) >>> λ t. ([], Ok (t, left))) >>> behind_text end name d)
   answered request answer left text end is closes = grind arith
 
-  defines_same : (definition : Definition) → Same (λ rs. defines definition rs)
-  defines_same definition = grind arith
-
 entity_same : (src : List ℕ) (d : Dtd) → Same (λ rs. entity_step src (left_with rs d))
 unfolding entity_step
 entity_same src d = grind arith

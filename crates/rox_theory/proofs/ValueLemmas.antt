@@ -13,7 +13,7 @@ use Rattle.rox_grammar.specs.Content.{Inclusion, is_verbatim_value, value_bytes,
 use Rattle.rox_grammar.specs.Entities.{Replacement, Entity, text_of}
 use Rattle.rox_reading.specs.Lexical.{chars_up_to}
 use Rattle.rox_reading.specs.Refusals.{Refusal}
-use Rattle.rox_reading.specs.Values.{Reference, character_of, entity_at, reference_at, Bit, bytes_of, opens, entity_bit, reference_bit, ReadText, is_special, tested_bit, value_reference_at, stretch_at, value_bit_at, ValueInclusion, after_value_bit, value_text, value_at}
+use Rattle.rox_reading.specs.Values.{Reference, character_of, reference_at, Bit, bytes_of, opens, entity_bit, reference_bit, ReadText, is_special, tested_bit, value_reference_at, stretch_at, value_bit_at, ValueInclusion, after_value_bit, value_text, value_at}
 use Rattle.rox_reading.proofs.ByteReads.{special_ascii}
 use Rattle.rox_theory.specs.Openers.{IsStop, AgreesValue}
 use Rattle.rox_theory.proofs.Basics.{ok_same, bind_ok, bind_lifted, chosen, chars_sound, chars_complete}
@@ -191,11 +191,6 @@ module _ (es : List Entity) (src : List ℕ) (utf8 : IsUtf8 src) (stop : ℕ) (l
   unfolding value_bit_at value_reference_at
   character_read main i x m r any =
       rw ((eq-eqb _ _ (character_opens src i x m r).0), (character_complete src i x m r), (tested_character main i x any)) refl
-
-  -- An entity is let through.
-  tested_entity : (main : Bool) (i n : ℕ) (t : Replacement) → text_of es (slice src (i + 1) n) ≡ Some t
-      → tested_bit main i (entity_at (record { start = i + 1; end = n })) (reference_bit es src i (entity_at (record { start = i + 1; end = n }))) ≡ Ok (opens t)
-  tested_entity main i n t is = grind arith
 
   -- A reference to an entity is read.
   entity_read : (main : Bool) (i n k : ℕ) (t : Replacement) → IsReference src i n k → predefined (slice src (i + 1) n) ≡ None → text_of es (slice src (i + 1) n) ≡ Some t → value_bit_at main es src stop i ≡ Ok (opens t, k)

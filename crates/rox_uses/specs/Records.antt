@@ -1,7 +1,7 @@
 -- Records.
 use Rattle.std.specs.Prelude.{ℕ, Bool, ◌||◌, List, ◌++◌, Option, Some, string_bytes, codes, decimal, is_none}
 use Rattle.roxmltree.specs.DocumentView.{DocumentView}
-use Rattle.rox_uses.specs.Nodes.{item_at, value_at}
+use Rattle.rox_uses.specs.Nodes.{value_at}
 use Rattle.rox_uses.specs.declared.records.Record.{Record}
 use Rattle.rox_uses.specs.declared.records.RecordsError.{RecordsError}
 use Rattle.rox_uses.specs.declared.records.RecordsError.TheVariants as error

@@ -1,5 +1,5 @@
 -- An element is among the top nodes of a document.
-use Rattle.std.proofs.Common.{◌≡◌, ℕ, ◌+◌, ◌<◌, Bool, List, [], ◌∷◌, length, None, true, false, ap, subst, arith, length-append}
+use Rattle.std.proofs.Common.{◌≡◌, ℕ, ◌+◌, ◌<◌, Bool, List, [], ◌∷◌, length, None, false, ap, subst, arith, length-append}
 use Rattle.rox_grammar.specs.Forest.{Forest, Nil, Cons, size}
 use Rattle.rox_grammar.specs.Written as written
 use Rattle.rox_grammar.specs.Written.{NamespaceDecl}
@@ -31,10 +31,6 @@ pub record IsDocument (end : ℕ) (tree : Forest Node) : Type 0 where
   pub tops : Forest Node
   pub rooted : tree ≡ Cons (Root end) tops Nil
   pub element : HasElement tops
-
--- an element is the nearest
-nearest_here : (d : DocumentView) (i : ℕ) (xs : List ℕ) → is_element_node (place d.tree i).item ≡ true → nearest_element (node_refs d (i ∷ xs)) ≡ None → ⊥
-nearest_here d i xs e h = cc
 
 -- what is none from here on is none after
 nearest_after : (d : DocumentView) (i : ℕ) (xs : List ℕ) → is_element_node (place d.tree i).item ≡ false → nearest_element (node_refs d (i ∷ xs)) ≡ None → nearest_element (node_refs d xs) ≡ None
