@@ -90,7 +90,8 @@ fn data_parts<'input>(
 }
 
 /// Joins a replacement text that is plain character data, named in the main text, to the text that may continue. If none may, the
-/// replacement text itself waits for its row. Returns false, with the builder unchanged, if it does neither.
+/// replacement text itself waits for its row. An empty text adds nothing. Returns false, with the builder unchanged, if the text
+/// is not read so.
 #[inline(always)]
 fn joins<'input>(
     builder: &mut Builder<'input>,
@@ -214,7 +215,7 @@ fn step<'input>(
     markup(cursor, builder, context)
 }
 
-/// Reads content up to the end tag of the root element.
+/// Reads content through the end tag of the root element.
 #[inline(always)]
 pub fn content<'input>(
     cursor: &mut Cursor<'input>,

@@ -4,9 +4,9 @@
 #[derive(Clone, Copy)]
 pub enum Pending {
     None,
-    /// One piece, whose row is the last.
+    /// A text that has its row, which is the last.
     Written,
-    /// Pieces in a buffer.
+    /// A text that waits for its row, in a buffer (see `JoinedText`).
     Joined,
 }
 

@@ -1,4 +1,5 @@
-//! Text nodes: adjacent pieces of character data are one text, which waits for its row while it may continue.
+//! Text nodes: adjacent pieces of character data are one text. While it may continue, it waits for its row, or has a row, which
+//! is taken back if a piece joins it.
 
 ghost use Rattle.std.specs.Prelude.{◌<◌, ◌≤◌, ◌+◌, ◌≡◌, ◌≢◌, [], ℕ, List, length, is_some, IfOk, OnOk, string_bytes, ◌^◌, vec_len};
 ghost use Rattle.rox_rows.specs.StoredNodes.{kind_of};
@@ -134,7 +135,7 @@ impl<'input> Builder<'input> {
         if !self.is_joining() {
             return Ok(());
         }
-        // A comment or a CDATA section can be between two texts.
+        // A CDATA section, which may start with the `<!` there, continues the text.
         if !is_at(text, at, b'<') || is_at(text, at + 1, b'!') {
             return Ok(());
         }
