@@ -8,7 +8,7 @@ use rox_compare::compare::{Pair, same_short};
 use rox_scopes::namespace::Namespace;
 use rox_scopes::scope::find_in_order;
 
-/// Returns the first bit of the slot of a prefix. Each of the sixteen slots has four bits. Few prefixes of a document have one
+/// Returns the first bit of the slot of a prefix. Each of the sixteen slots has four bits. Few prefixes of a document share a
 /// slot, which depends on the first byte and on the length.
 #[inline(always)]
 fn slot_of(prefix: &str) -> usize
@@ -52,7 +52,7 @@ fn place_tried(
 }
 
 /// Returns the one of these places whose namespace has this prefix, and puts its index into the slot that begins at the bit
-/// `slot` of `near`. It is out of line, as few prefixes are another than the last one of their slot.
+/// `slot` of `near`. It is out of line, as most prefixes are the last one of their slot.
 #[inline(never)]
 fn place_beyond(
     namespaces: &[Namespace<'_>],

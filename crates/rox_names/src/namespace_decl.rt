@@ -175,9 +175,9 @@ fn has_prefix(pairs: &[Namespace<'_>], prefix: Option<&str>) -> bool
     false
 }
 
-/// Like `declare_namespace`, but for a tag whose declarations are all that is listed. Returns true if no pair has its prefix.
-/// Then the pair is new, and no search for it is needed. Otherwise, or if there are many pairs, returns false and declares
-/// nothing.
+/// Like `declare_namespace`, but for a tag whose declarations are all that is listed. Returns true if it is declared: no pair has
+/// its prefix, so the pair is new, and no search for it is needed. Returns false, and declares nothing, if a pair has its prefix,
+/// if it declares `xml` or is not valid, or if there are many pairs or listed places.
 #[inline(always)]
 pub fn declare_new<'input>(
     namespaces: &mut NamespaceTable<'input>,

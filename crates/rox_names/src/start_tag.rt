@@ -22,12 +22,12 @@ pub struct StartTag<'input> {
 pub struct Buffers<'input> {
     /// The text that is read if it is not a slice of the source.
     pub scratch: String,
-    /// A slice of character data of a replacement text, with its line ends not normalized.
+    /// A part of character data of a replacement text, with its line ends not normalized.
     pub raw: String,
     /// The attributes of the tag.
     pub taken: Vec<UnresolvedAttribute<'input>>,
     /// The prefixes that the tag declares if they are many.
     pub prefix_set: BTreeSet<Option<&'input str>>,
-    /// The codes of the names of a plain tag's attributes.
+    /// What the fast path keeps of attributes, and whether memory was refused to it.
     pub seen: SeenNames,
 }

@@ -69,8 +69,8 @@ fn put_line<'input>(
     end
 }
 
-/// Like `put_changed_data`, but first tests whether the character data is CR LF followed only by bytes that need no replacement, as
-/// most is that gets here.
+/// Like `put_changed_data`, but first tests whether the character data is CR LF followed only by bytes that need no replacement,
+/// as most that gets here is.
 #[inline(never)]
 fn put_new_line<'input>(text: &'input str, start: usize, builder: &mut Builder<'input>) -> usize
     requires { MayReadRunAt text.now start builder.old }

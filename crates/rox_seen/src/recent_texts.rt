@@ -20,7 +20,7 @@ const FEW: u32 = 1;
 /// If `missed` gets this high, no more values are looked for or stored: most of those in the document differ.
 const MOST_MISSED: u32 = 512;
 
-/// The number of values without an equal stored one that one with an equal one makes up for.
+/// A value with an equal stored one makes up for this many values without one.
 const MADE_UP: u32 = 8;
 
 /// Returns the place of a value shorter than `LONG` bytes, below `LONG`. It depends on the length and two bytes: most values that

@@ -8,8 +8,9 @@ use crate::recent_texts::Recent;
 use rox_compare::compare::{WORD, word_at};
 use rox_rows::attributes::AttributeTable;
 
-/// The attributes of a tag that are in the table: where they begin, and which codes their names have. The codes of the first four
-/// are recorded with the fifth. Until then `codes` has those of an earlier tag.
+/// What is kept of attributes while tags are read. Of a tag: where its attributes begin in the table, and which codes their names
+/// have. The codes of the first four are recorded with the fifth; until then `codes` has those of an earlier tag. Of all tags,
+/// for the fast path: where prefixes were found, the values stored for sharing, and whether memory was refused.
 #[derive(Drop)]
 pub struct SeenNames {
     pub from: usize,
@@ -25,7 +26,8 @@ pub struct SeenNames {
     pub lacking: bool,
 }
 
-/// If more codes repeat, a tag is left to the general step: its names were chosen for that.
+/// If more codes repeat, the fast path leaves a tag to the general step, which may put its names into a set. So many repeat in
+/// tags of hundreds of attributes, and among names chosen to have equal codes.
 const MOST_AGAIN: usize = 32;
 
 /// The number of codes.

@@ -112,8 +112,8 @@ pub(crate) fn declaration_after<'input>(
     Some(one)
 }
 
-/// Puts the declaration at `start` into the tables, if it is plain and does not declare `xml`. Returns the offset after it. Sets
-/// `lacking` of `seen` if memory was refused.
+/// Puts the declaration at `start` into the tables, if it is plain and `declare_new` declares it. Returns the offset after it.
+/// Sets `lacking` of `seen` if memory was refused.
 #[inline(always)]
 fn declared<'input>(
     text: &'input str,

@@ -325,7 +325,7 @@ fn head_with_prefix<'input>(
 {
     let name = name_of_prefix(text, after_byte(text, start, b'<'), run)?;
     let prefix = name.name.prefix;
-    // No prefix is empty here. One test of it spares the others.
+    // The prefix is never empty here. Testing that once spares later tests.
     if prefix.is_empty() || same_text(prefix, "xmlns") {
         return None;
     }
