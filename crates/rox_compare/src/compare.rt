@@ -4,7 +4,7 @@ ghost use Rattle.std.specs.Prelude.{◌≡◌, ◌≤◌, ◌<◌, ◌+◌, leng
 ghost use Rattle.rox_compare.specs.Words.{HasLength};
 ghost use Rattle.std.specs.Int.{w64, from_le_bytes, to_le_bytes, w32};
 
-/// The length in bytes from which on the comparison of the standard library is used.
+/// The length in bytes from which on `same_stretch` uses the comparison of the standard library.
 pub const LONG: usize = 16;
 
 /// The number of bytes in a word.
@@ -151,7 +151,8 @@ fn same_few(pair: Pair<'_, '_>) -> bool
         && pair.one[last] == pair.other[last]
 }
 
-/// Returns whether both slices are equal. It is meant for slices shorter than `LONG`.
+/// Returns whether both slices are equal. It is meant for slices of at most `STRETCH` bytes: longer ones are compared byte by
+/// byte.
 #[inline(always)]
 pub fn same_short(pair: Pair<'_, '_>) -> bool
     ensures { result ≡ bytes_eq pair.entry.one.now pair.entry.other.now }

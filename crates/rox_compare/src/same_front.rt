@@ -1,4 +1,4 @@
-//! Comparison of bytes, sixteen at a time.
+//! Comparison of the first bytes of two slices: of fewer than sixteen bytes at once.
 
 ghost use Rattle.std.specs.Prelude.{◌≡◌, ◌<◌, ℕ, slice_index, ◌≤◌, true, false, eqb, length, take};
 

@@ -69,7 +69,7 @@ impl<'input> PrefixBindings<'input> {
         }
     }
 
-    /// Returns whether no scope is entered.
+    /// Returns true only if no scope is entered.
     #[inline(always)]
     pub fn is_of_none(&self) -> bool
         ensures { result ≡ true

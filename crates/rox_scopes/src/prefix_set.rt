@@ -11,7 +11,8 @@ use crate::namespace::Namespace;
 use std::alloc::AllocError;
 use std::collections::BTreeSet;
 
-/// Up to this number of declarations, those of a tag are compared one by one.
+/// Up to this number of declarations, those of a tag are compared one by one. It is also the most places that a scope lists as
+/// one stretch (`Scope::Few`).
 pub const FEW: usize = 16;
 
 /// Returns whether the prefix, or the default, is among these.

@@ -22,7 +22,7 @@ pub struct Concat {
 /// Below an element that lists many, a scope joins own declarations and what is left of the rope of that element.
 #[derive(Clone, Copy)]
 pub enum Scope {
-    /// A stretch of at most `FEW` places, in order.
+    /// A stretch of at most `FEW` places (see `prefix_set.rt`), in order.
     Few(Stretch),
     /// A stretch, in reverse order.
     Back(Stretch),
