@@ -55,7 +55,7 @@ pub fn push_with_room<T: Drop>(to: &mut Vec<T>, value: T, first: usize) -> Resul
     Ok(())
 }
 
-/// The largest room, in rows, for which no smaller room is tried: 9 KiB of rows of nodes, which are the widest.
+/// The largest room, in rows, for which no smaller room is tried: 9.8 KB of rows of nodes or attributes, which are the widest.
 const SMALL: usize = 204;
 
 /// Makes room for `more` rows. If that is refused and the table would have more than `SMALL` rows, makes room for `fewer`.

@@ -4,7 +4,7 @@ ghost use Rattle.std.specs.Iterator.{IsFinite};
 
 use std::fmt;
 
-// Prints what an iterator has left, as a list in parentheses, after a text that ends with the opening one.
+/// Prints what an iterator has left, as a list in parentheses, after a text that ends with the opening one.
 pub(crate) fn write_list<T: fmt::Debug + Drop, I: Iterator<Item = T>, W: fmt::Write>(
     f: &mut fmt::Formatter<W>,
     start: &str,

@@ -74,7 +74,7 @@ pub fn close_elements<W: fmt::Write>(
     done
 }
 
-// Prints what an element has of one kind, each item on its own line, or nothing if there is none.
+/// Prints what an element has of one kind, each item on its own line, or nothing if there is none.
 fn write_items<T: fmt::Debug + Drop, I: ExactSizeIterator<Item = T>, W: fmt::Write>(
     f: &mut fmt::Formatter<W>,
     done: fmt::Result,
@@ -107,7 +107,7 @@ pub fn write_item<T: fmt::Debug, W: fmt::Write>(
     end_line(f, done, item)
 }
 
-// Prints an item and the end of its line.
+/// Prints an item and the end of its line.
 fn end_line<T: fmt::Debug, W: fmt::Write>(
     f: &mut fmt::Formatter<W>,
     done: fmt::Result,

@@ -204,7 +204,8 @@ impl<'input> AttributeTable<'input> {
         true
     }
 
-    /// Appends an attribute of any offsets if there is room for it and them. Otherwise returns false, with the table unchanged.
+    /// Appends an attribute of any offsets. Returns false, with the table unchanged, if there is no room for it or for them, or
+    /// if memory is refused.
     #[inline(always)]
     pub fn put_explicit(&mut self, item: AttributeData<'input>, places: AttributePlaces) -> bool
         ensures { Puts ((item.entry, places) ∷ []) result (attribute_rows self.old)
@@ -262,7 +263,7 @@ impl<'input> AttributeTable<'input> {
             return false;
         }
         let Some(before) = compact_before(&item, &places) else {
-            // This branch has a value of its own, so that the branch of compact attributes keeps its one in registers.
+            // This branch has a value of its own, so that the branch of compact attributes keeps its own in registers.
             let explicit = AttributeData {
                 local: item.local,
                 value: item.value,

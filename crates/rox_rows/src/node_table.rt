@@ -35,8 +35,8 @@ pub struct NodeTable<'input> {
 /// The number of rows a table starts with if memory for more is refused.
 const FEWEST_ROWS: usize = 16;
 
-/// Returns the upper halves of a row's places, if these are those of the first rows. It is kept out of line, since only texts of
-/// 4 GiB and more have any.
+/// Returns the upper halves of the offsets of the row at `index`, which are 0 past the end of `high`. It is kept out of line,
+/// since only texts of 4 GiB and more have any.
 #[cold]
 #[inline(never)]
 fn high_places_at(high: &[HighPlaces], index: usize) -> HighPlaces

@@ -87,6 +87,7 @@ pub fn namespace_place(number: u16) -> Option<u16>
     Some(number - 1)
 }
 
+/// What a node is, with its content. A processing instruction and an element are copied, a text moves.
 #[derive(Drop)]
 pub enum NodeKind<'input> {
     Root,
