@@ -6,7 +6,7 @@ ghost use Rattle.rox_constructs.specs.ParsedResults.{parsed_of};
 use rox_grammar::failure::Failure;
 use rox_values::parse_error::ParseError;
 
-/// Returns what a result is for a caller that opens entities.
+/// Returns this result with its failure as a `ParseError`, which callers that open entities return.
 #[inline(always)]
 pub fn parsed<'input>(read: Result<(), Failure>) -> Result<(), ParseError<'input>>
     ensures { result ≡ parsed_of read }

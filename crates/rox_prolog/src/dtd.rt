@@ -91,7 +91,7 @@ fn entity<'input, R: EntityResolver<'input>>(
     Ok(())
 }
 
-/// Returns what `item` returns of an item that was read so, and does not end the declaration.
+/// Returns false, as `item` does for an item after which the declaration continues, or the item's refusal.
 fn ended<'input>(read: Result<(), ParseError<'input>>) -> Result<bool, ParseError<'input>>
     ensures { result ≡ ended read.entry }
 {

@@ -139,6 +139,7 @@ fn tag_part<'input>(
 ) -> Result<TagPart<'input>, ParseError<'input>>
     ensures { ReadsTagPart context.entry cursor.old cursor.new openings_left result }
 {
+    // The length is not used: the contract of the call bounds offsets for the proof.
     let small = byte_count(cursor.text);
     match tag_item(cursor)? {
         TagItem::More(raw) => {
@@ -290,6 +291,7 @@ pub fn start_tag<'input>(
     ensures { ReadsStartTag context.entry around cursor.old cursor.new elements.old elements.new
         result }
 {
+    // The length is not used: the contract of the call bounds offsets for the proof.
     let small = byte_count(cursor.text);
     cursor.advance();
     let name_start = cursor.pos;

@@ -77,6 +77,7 @@ fn begin_root(elements: &mut ElementTables<'_>) -> Result<(), AllocError>
     requires { length elements.old.scopes.items ≡ 1 }
     ensures { BeginsOwn elements.old elements.new result }
 {
+    // This row lists nothing already. It is written so that the proof knows the row itself.
     elements.scopes[0] = Scope::Few(Stretch { from: 0, until: 0 });
     push(
         &mut elements.scopes,
