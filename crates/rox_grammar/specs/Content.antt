@@ -53,7 +53,7 @@ is_verbatim bs = not (list_any (λ b. b == code "&" || b == code "\r") bs)
 abbrev pub is_verbatim_value : List ℕ → Bool
 is_verbatim_value bs = not (list_any (λ b. b == code "&" || (b == code "\t" || (b == code "\n" || b == code "\r"))) bs)
 
--- A CDATA section of this text, which is a slice of the source if it has no CR.
+-- XML 2.7 [18], 2.11: a CDATA section of this text, which is a slice of the source if it has no CR.
 abbrev pub section : (start end : ℕ) → (text : List ℕ) → Item
 section start end text = Text start end (line_ends (literals text)) (not (list_any (λ b. b == code "\r") text))
 
@@ -78,7 +78,7 @@ pub data IsCharacterData (src : List ℕ) (i j : ℕ) : Type 0 where
 abbrev pub value_bytes : Bool → ℕ → List ℕ
 value_bytes main c = if not main && (c == code "\t" || (c == code "\n" || c == code "\r")) then code " " ∷ [] else encode_utf8 c
 
--- The end of a start tag, after optional white space: `>`, or `/>` if the element is empty.
+-- XML 3.1 [40], [44]: the end of a start tag, after optional white space: `>`, or `/>` if the element is empty.
 pub data TagEnds (src : List ℕ) : (i : ℕ) → (empty : Bool) → (j : ℕ) → Type 0 where
   opened : (i : ℕ) → byte src (spaces_end src i) ≡ code ">" → TagEnds src i false (spaces_end src i + 1)
   closed : (i : ℕ) → byte src (spaces_end src i) ≡ code "/" → byte src (spaces_end src i + 1) ≡ code ">" → TagEnds src i true (spaces_end src i + 2)

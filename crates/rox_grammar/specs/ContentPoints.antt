@@ -103,7 +103,7 @@ pub data ValuePart (opens : ℕ → Inclusion) (es : List Entity) (k : ℕ) (src
       → ValuePart opens es k src start end b (suc l) t.source t.start (length t.source) r
 
 -- The start tag at the offset of `s` is read up to `p`, right after its name or one of these attributes and declarations. No
--- fault of the tag is before `p`: each declaration is allowed, and with their pairs the limit is kept.
+-- fault of the tag is before `p`: each declaration is allowed, and the pairs of the document up to `p` do not exceed the limit.
 abbrev pub TagTo : (main : Bool) → Inclusion → List ℕ → State → (p b c : ℕ) → Name → List Attribute → Type 0
 TagTo main Includes src s p b c name written =
     (n : ℕ) × IsQName src (s.at + 1) name n × (bytes_eq name.prefix (codes "xmlns") ≡ false) × Attributes main Includes src n p b c written

@@ -44,7 +44,7 @@ entry name (Some text) = record { name = name; text = text } ∷ []
 -- Rules between two offsets of a source. `asked` are the requests with their answers, and `es` the entities that are declared,
 -- each in order.
 module _ (src : List ℕ) where
-  -- White space from `i` up to `j`, at least one character.
+  -- XML 2.3 [3] S: white space from `i` up to `j`, at least one character.
   abbrev pub IsSpace : (i j : ℕ) → Type 0
   IsSpace i j = (i < j) × (j ≡ spaces_end src i)
 
@@ -69,8 +69,8 @@ module _ (src : List ℕ) where
     external : (i n j : ℕ) (request : Request) (answer : Option (List ℕ)) (text : Option Replacement) → IsExternalID i request n → MayHaveNotation parameter n j
         → GivesReplacement answer text → IsDefinition parameter i j (record { request = request; answer = answer } ∷ []) text
 
-  -- The kind of an entity. `%` and white space are before the name of a parameter entity, and nothing is before that of a general
-  -- entity.
+  -- XML 4.2 [71] GEDecl, [72] PEDecl: the kind of an entity. `%` and white space are before the name of a parameter entity, and
+  -- nothing is before that of a general entity.
   pub data IsKind : (i : ℕ) → (parameter : Bool) → (j : ℕ) → Type 0 where
     of_parameter : (i j : ℕ) → byte src i ≡ code "%" → IsSpace (i + 1) j → IsKind i true j
     general : (i : ℕ) → byte src i ≢ code "%" → IsKind i false i

@@ -22,13 +22,12 @@ pub data Misc (src : List ℕ) : (i j : ℕ) → Forest Item → Type 0 where
   space : (i j : ℕ) (items : Forest Item) → is_space (byte src i) ≡ true → Misc src (i + 1) j items → Misc src i j items
   an_item : (i j k : ℕ) (item : Item) (items : Forest Item) → IsMisc src i j item → Misc src j k items → Misc src i k (join (leaf item) items)
 
--- XML 2.8 [22] prolog, up to `p`, where its document type declaration or the root element starts, with these comments and
--- processing instructions.
+-- XML 2.8 [22] prolog, read up to `p`, before any document type declaration: its comments and processing instructions.
 abbrev pub PrologTo : (src : List ℕ) (p : ℕ) → Forest Item → Type 0
 PrologTo src p items = (i : ℕ) × MayHaveXmlDecl src (after_bom src) i × Misc src i p items
 
--- XML 2.8 [22] prolog, up to the root element at `p`: whether it has a document type declaration, its nodes, the requests for its
--- entities, and the entities.
+-- XML 2.8 [22] prolog, read up to `p`: whether a document type declaration is before `p`, the nodes, the requests for entities,
+-- and the entities.
 pub data Prolog (src : List ℕ) (p : ℕ) : (dtd : Bool) → Forest Item → List Asked → List Entity → Type 0 where
   with_doctype : (i j : ℕ) (before items after : Forest Item) (asked : List Asked) (es : List Entity) → PrologTo src i before → IsDoctype src i j items asked es
       → Misc src j p after → Prolog src p true (join before (join items after)) asked es

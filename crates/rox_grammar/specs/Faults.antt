@@ -168,9 +168,9 @@ pub data AtPoint (opens : ℕ → Inclusion) (es : List Entity) (limit k open_ar
       → ValuePart opens es k src (next.pair.first_quote + 1) next.pair.last_quote next.openings_left l part i stop d → InValue es l (opens l) part i stop d f
       → AtPoint opens es limit k open_around src s b part f
 
--- A fault of a text with at most `limit` nodes, in the source `source`. It is before the root element, in it, or after it.
--- `PrologAt p items` says that the prolog, read up to `p`, has these nodes. All before the fault is valid and within the limits.
--- Positions and names of the fault count in the source. `dtd` says whether a document type declaration is before it.
+-- A fault of a text that may have at most `limit` nodes, in the source `source`. It is before the root element, in it, or after
+-- it. `PrologAt p items` says that the prolog, read up to `p`, has these nodes. All before the fault is valid and within the
+-- limits. Positions and names of the fault count in the source. `dtd` says whether a document type declaration is before it.
 module _ (opens : ℕ → Inclusion) (es : List Entity) (limit : ℕ) (text : List ℕ) (dtd : Bool) (PrologAt : ℕ → Forest Item → Type 0) where
   pub data FaultFrom : (source : List ℕ) → Fault → Type 0 where
     misc_around : (p : ℕ) (items : Forest Item) (f : Fault) → PrologAt p items ⊎ DocumentTo (opens 0) text PrologAt p items → FitsLimits limit root items

@@ -3,6 +3,7 @@ use Rattle.std.specs.Prelude.{ℕ, ◌+◌, ◌-◌, Bool, ◌&&◌, bytes_eq, l
 use Rattle.rox_grammar.specs.declared.fault.Span.{Span}
 use Rattle.rox_grammar.specs.Written.{Name}
 
+-- XML 3 (Element Type Match): both names are equal as they are written.
 abbrev pub same_qname : Name → Name → Bool
 same_qname m n = bytes_eq m.prefix n.prefix && bytes_eq m.local n.local
 

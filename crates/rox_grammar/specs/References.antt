@@ -6,17 +6,19 @@ use Rattle.rox_grammar.specs.Chars.{is_between, is_char}
 use Rattle.rox_grammar.specs.Names.{byte, slice, IsName}
 use Rattle.rox_grammar.specs.Constructs.{text_at}
 
+-- XML 4.1 [66]: whether `b` is a decimal digit.
 abbrev pub is_digit : ℕ → Bool
 is_digit b = is_between (code "0") (code "9") b
 
+-- XML 4.1 [66]: whether `b` is a hexadecimal digit.
 abbrev pub is_hex_digit : ℕ → Bool
 is_hex_digit b = is_digit b || (is_between (code "a") (code "f") b || is_between (code "A") (code "F") b)
 
--- The value of a digit.
+-- XML 4.1 [66]: the value of a digit.
 abbrev pub digit_value : ℕ → ℕ
 digit_value b = if nat_le b (code "9") then b - code "0" else if nat_le b (code "F") then b - (code "A" - 10) else b - (code "a" - 10)
 
--- The number that the digits give in this base.
+-- XML 4.1 [66]: the number that the digits give in this base.
 abbrev pub number : ℕ → List ℕ → ℕ
 number base ds = fold (λ n d. n * base + digit_value d) 0 ds
 

@@ -3,7 +3,7 @@ use Rattle.std.specs.Prelude.{◌≡◌, ℕ, ◌==◌, false, List, [], ◌∷�
 use Rattle.std.specs.List.{starts_with}
 use Rattle.rox_grammar.specs.Constructs.{text_at, IsXmlDecl}
 
--- The byte order mark in UTF-8.
+-- XML 4.3.3: the byte order mark in UTF-8.
 abbrev pub bom : List ℕ
 bom = 0xEF ∷ 0xBB ∷ 0xBF ∷ []
 

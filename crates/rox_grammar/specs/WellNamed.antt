@@ -31,7 +31,7 @@ AreDistinct scope as' = (list_all (λ a. is_known scope a.name) as' ≡ true) ×
 abbrev pub may_name : List NamespaceDecl → Name → Bool
 may_name scope n = bytes_eq n.prefix [] || is_declared (Some n.prefix) scope
 
--- The names of a tag whose element lists `scope` are valid.
+-- The names of a tag whose element lists `scope` are valid. NS 3: an element must not have the prefix `xmlns`.
 abbrev pub IsWellNamed : List NamespaceDecl → Tag → Type 0
 IsWellNamed scope t = (bytes_eq t.name.prefix (codes "xmlns") ≡ false) × AreDeclarable t.declarations × AreDistinct scope t.attributes × (may_name scope t.name ≡ true)
 

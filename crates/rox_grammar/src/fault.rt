@@ -97,7 +97,7 @@ impl Expected {
         }
     }
 
-    /// The same of the fixed texts that constructs hold.
+    /// Returns the `Word` with the same bytes.
     #[inline]
     pub fn word(self) -> Word
         ensures { word_text result ≡ expected_text self }
