@@ -62,7 +62,7 @@ is_part_byte b = nat_lt b 128 && is_part_char b
 abbrev pub AllPass : (ℕ → Bool) → List ℕ → ℕ → ℕ → Type 0
 AllPass p src i j = (k : ℕ) → i ≤ k → k < j → p (slice_index src k) ≡ true
 
--- The byte `b` is a 239 that the byte `next` does not follow if it starts U+FFFE or U+FFFF: these start with 239 and 191.
+-- The byte `b` is 239, and `next`, the byte after it, is not 191. U+FFFE and U+FFFF start with 239 and 191, so `b` starts a Char.
 abbrev pub leads_char : (b next : ℕ) → Bool
 leads_char b next = (b == 239) && not (next == 191)
 

@@ -204,7 +204,7 @@ impl ByteSet for CharByte {
 /// The ASCII bytes of a part of a name.
 pub struct PartByte;
 
-// Each byte of the set has one of these classes, and no other byte has one.
+// A byte is in the set exactly if the entries of its two halves have a bit in common.
 const PART_LOW: [u8; 16] = [26, 30, 30, 30, 30, 30, 30, 30, 30, 30, 28, 4, 4, 5, 5, 12];
 
 const PART_HIGH: [u8; 16] = [0, 0, 1, 2, 4, 8, 4, 16, 0, 0, 0, 0, 0, 0, 0, 0];

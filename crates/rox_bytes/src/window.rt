@@ -14,7 +14,7 @@ pub const WIDTH: usize = 16;
 #[derive(Clone, Copy)]
 pub struct Window {
     pub at: usize,
-    /// A bit for each byte that is not in a part of a name, the lowest for the first.
+    /// A bit for each byte that is not a `PartByte`, the lowest for the first.
     pub parts: u64,
     /// A bit for each byte that is not a `ValueByte`, the lowest for the first.
     pub values: u64,
@@ -45,7 +45,8 @@ impl Window {
     }
 
     /// Returns how many bytes come before the second byte that is not a `ValueByte`, if the window has it. If the first is the
-    /// quote that opens a value, the second ends that value. The name before the quote need not be counted first.
+    /// quote that opens a value, the second is the first byte after it that needs another test. The name before the quote need
+    /// not be counted first.
     #[inline(always)]
     pub fn value_end(&self) -> Option<usize>
         ensures { (src : List ℕ) (before : ℕ) → SeesQuote src self.now before → MatchOption result

@@ -24,7 +24,7 @@ pub record LooksAhead (ends : ℕ → Bool) (changes : ℕ → Bool) (src : List
   pub looked : IsLookahead ends changes src i j verbatim
   pub stops : j < length src → ends j ≡ false → begins is_char src j ≡ false
 
--- The bytes from `i` up to `j` are one Char, or there are none.
+-- The bytes from `i` up to `j` are Chars, of which only the first may be ASCII.
 pub record IsStep (src : List ℕ) (i j : ℕ) : Type 0 where
   pub onward : i ≤ j
   pub chars : AreChars src i j

@@ -158,7 +158,8 @@ fn changes_run(byte: u8) -> bool
     (byte == b'&') | (byte == b'\r')
 }
 
-/// Returns the end of the bytes from `at` on that need no test. Behind a byte that changes character data, no other such byte does.
+/// Returns the end of the bytes from `at` on that need no test. After a byte that changes character data, other such bytes need
+/// none either.
 #[inline(always)]
 fn stretch_end(text: &str, at: usize, is_verbatim: bool) -> usize
     requires { IsCharBoundary text.now at }

@@ -188,7 +188,8 @@ impl ByteSet for ChangedValueByte {
     }
 }
 
-/// Returns the end of the bytes from `at` on that need no test. Behind a byte that changes a value, no other such byte does.
+/// Returns the end of the bytes from `at` on that need no test. After a byte that changes a value, other such bytes need none
+/// either.
 #[inline(always)]
 fn value_stretch_end(text: &str, at: usize, quote: Quote, is_verbatim: bool) -> usize
     requires { IsCharBoundary text.now at }
