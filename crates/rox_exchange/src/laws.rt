@@ -30,8 +30,8 @@ pub fn element_is_local()
         → IsElement true no_entities to i j b c one }
 {}
 
-/// States that what has an element in the place that the context names is an element, and that another element may replace it
-/// there: what is after it moves, and its ancestors grow.
+/// States that an element with another one in the place that `ElementWith` names is an element, and that an element may be
+/// exchanged there: what is after it moves, and its ancestors grow.
 pub fn element_may_be_exchanged()
     ensures whole { (src : List ℕ) (s e : ℕ) (hole : Forest Item) (i j : ℕ) (all : Forest Item)
         → IsElement true no_entities src s e 255 255 hole → ElementWith src s e hole i j all

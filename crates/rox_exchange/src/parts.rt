@@ -15,8 +15,8 @@ ghost use Rattle.rox_exchange.specs.Local.{Follows, Fronts, moved_items};
 ghost use Rattle.rox_exchange.specs.SourceKinds.{StandsInEach};
 ghost use Rattle.rox_exchange.specs.SelfContained.{is_contained};
 
-/// States that what an element is written in is a document, if its names are declared inside it. Its tree is the element only,
-/// moved to the start.
+/// States that the slice of an element is a document, if its names are declared inside it. Its tree is the element only, moved to
+/// the start.
 pub fn element_is_a_document()
     ensures { (src : List ℕ) (s e openings_left : ℕ) (one : Forest Item) → IsUtf8 src
         → IsElement true no_entities src s e 255 openings_left one → AreWellNamed [] one

@@ -27,7 +27,7 @@ pub fn elements_are_documents()
 {}
 
 /// States that another document's self-contained element may replace a self-contained element: the new text is a document, and
-/// its tree is the first with the one in the place of the other.
+/// its tree is the first tree with the other document's element in the place of the old one.
 pub fn elements_may_be_exchanged()
     ensures parse { (text : List ℕ) (tree : Forest Node) (id : ℕ) (other_text : List ℕ)
         (other : Forest Node) (at : ℕ) → IsUtf8 text → HasTree text tree

@@ -9,7 +9,8 @@ ghost use Rattle.rox_theory.specs.Apart.{Apart, AnyElement};
 ghost use Rattle.rox_theory.specs.CharItems.{ItemsChars};
 ghost use Rattle.rox_theory.specs.Pieces.{pieces_of, OnlySectionsAreEmpty};
 
-/// States that all that they say are texts of Chars, with what entities give.
+/// States that the local names, declarations, targets, texts and values of all items are texts of Chars, also those that entities
+/// give.
 pub fn items_are_chars()
     ensures { (src : List ℕ) (dtd : Bool) (asked : List Asked) (tree : Forest Item) → IsUtf8 src
         → ParseOf src dtd asked tree → ItemsChars tree }
