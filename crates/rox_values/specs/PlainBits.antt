@@ -80,14 +80,14 @@ pub record PutsOne (kind : TextKind) (src : List ℕ) (i stop : ℕ) (old new : 
 abbrev pub depends_on_kind : ℕ → Bool
 depends_on_kind c = c == 9 || (c == 10 || (c == 13 || c == 60))
 
--- No bytes are what a reference to `character` gives in each value of a text of the kind `kind`: it is a fault, or depends on the
--- kind.
+-- There are no bytes that a reference to `character` gives in each value of a text of the kind `kind`: it is a fault, or depends
+-- on the kind.
 abbrev pub HasNoCharacter : TextKind → ℕ → Type 0
 HasNoCharacter kind character = (i : ℕ) (given : List ℕ) → ((main : Bool) → may_be kind main ≡ true
     → tested_bit main i (character_of character) (Ok (bytes_of (encode_utf8 character))) ≡ Ok (bytes_of given)) → ⊥
 
--- No bytes are what the item at `i` gives in each text of the kind `kind`, whatever is declared: it names an entity, is a fault, or
--- depends on the kind.
+-- There are no bytes that the item at `i` gives in each text of the kind `kind`, whatever is declared: it names an entity, is a
+-- fault, or depends on the kind.
 abbrev pub GivesNoBytes : TextKind → List ℕ → ℕ → ℕ → Type 0
 GivesNoBytes kind src i stop = (given : List ℕ) (j : ℕ) → ((main : Bool) (es : List Entity) → may_be kind main ≡ true → value_bit_at main es src stop i ≡ Ok (bytes_of given, j)) → ⊥
 

@@ -127,7 +127,7 @@ pub record PutsData (src : List ℕ) (i stop : ℕ) (old new : List ℕ) (j : �
   pub onward : i ≤ j
   pub cut : IsCharBoundary src j
 
--- Two characters, or the ends of the text, meet at `i` and at `stop`.
+-- Both offsets are between two characters, or at an end of the text.
 pub record HasOffsets (src : List ℕ) (i stop : ℕ) : Type 0 where
   pub start : IsCharBoundary src i
   pub until : IsCharBoundary src stop

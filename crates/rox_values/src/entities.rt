@@ -33,7 +33,7 @@ struct Declared<'input> {
 }
 
 /// The entities of a document, by code and name. A replacement text is a cursor at its start, in a source that ends where the
-/// text does. The source is the main text, or what a resolver returned for an external entity.
+/// text does. The source is the main text, or what follows any byte order mark and declaration of a resolver's answer.
 #[derive(Drop)]
 pub struct Entities<'input> {
     texts: BTreeMap<(u64, &'input str), Cursor<'input>>,

@@ -9,7 +9,7 @@ use rox_grammar::fault::Fault;
 use std::alloc::{AllocError, AllocFailed};
 
 /// Why a text is refused. `Memory`: memory ran out. `Fault`: there is a fault in the source that is read. `FaultIn`: there is one
-/// in another source. `Resolver`: the resolver refused the request that ends at this offset of the main text.
+/// in another source. `Resolver`: the resolver refused the request that is made at this offset of the main text.
 #[derive(Drop)]
 pub enum ParseError<'input> {
     Memory,

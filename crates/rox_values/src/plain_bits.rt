@@ -294,8 +294,9 @@ fn spaced_text(alloc: Global, text: &str, lacking: &mut bool) -> Option<String>
     String::from_utf8(bytes).ok()
 }
 
-/// Returns true only if the value from `start` up to `stop` has no `&` and no CR from `first` on, where the first byte that changes
-/// it is. It returns false if that byte, or the next one that changes the value, comes after sixteen bytes or more.
+/// Returns true only if the value from `start` up to `stop` has no `&` and no CR from `first` on, where the first byte that
+/// changes it is. It also returns false if that byte comes after sixteen bytes or more, or if none of the fifteen bytes after it,
+/// up to `stop`, changes the value.
 #[inline(always)]
 fn is_spaced(text: &str, start: usize, first: usize, stop: usize) -> bool
     requires after { start ≤ first }

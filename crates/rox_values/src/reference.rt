@@ -42,8 +42,8 @@ static HEX_DIGITS: [u8; 256] = *b"\
     ................................\
     ................................";
 
-/// Returns the number that a digit means, of base 16 or of base 10. If the byte is no digit, returns a number that is not below the
-/// base. A table takes no jumps that a processor would foretell badly.
+/// Returns the number that a digit means, of base 16 or of base 10. If the byte is no digit, returns a number that is not below
+/// the base. A table needs no jump that a processor might mispredict.
 #[inline(always)]
 fn digit_of(byte: u8, hexadecimal: bool) -> u64
     ensures is { is_digit_of hexadecimal byte ≡ nat_lt result (base_of hexadecimal) }
