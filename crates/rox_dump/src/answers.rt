@@ -14,23 +14,26 @@ use std::io::Write;
 /// An answer of a resolver.
 #[derive(Drop)]
 pub enum Answer {
+    /// This text.
     Text(String),
+    /// No text.
     Nothing,
-    /// It refuses the document, in these words.
+    /// A refusal of the document, in these words.
     Refusal(String),
 }
 
 /// The answers of a resolver.
 #[derive(Clone, Copy)]
 pub enum Answers<'a> {
-    /// To its first call, its second, and so on, and the last one again and again. Where there is none, there is no resolver.
+    /// The answers to the first request, the second, and so on; the last answers all later ones. Without any there is no
+    /// resolver.
     InOrder(&'a [Answer]),
-    /// This text to each call.
+    /// This text answers each request.
     Each(&'a str),
 }
 
 impl<'a> Answers<'a> {
-    /// Whether there is no resolver.
+    /// Returns whether there is no resolver.
     pub fn is_none(&self) -> bool
         ensures { result ≡ spec.is_none self.now }
     {
@@ -40,7 +43,7 @@ impl<'a> Answers<'a> {
         }
     }
 
-    /// The answer to a call: 0 is the first.
+    /// Returns the answer to a request, which is the first if `call` is 0. Fails if there is no memory for a refusal's words.
     fn reply(
         &self,
         alloc: Global,
@@ -71,6 +74,7 @@ pub struct Recorder<'a> {
 }
 
 impl<'a> Recorder<'a> {
+    /// Returns a recorder with these answers, which was not asked yet.
     pub fn new(alloc: Global, answers: Answers<'a>) -> Recorder<'a>
         ensures { result.answers ≡ answers.entry }
     {
@@ -82,7 +86,8 @@ impl<'a> Recorder<'a> {
         }
     }
 
-    /// Writes down a request, and answers it. Where memory runs out, the answer is a refusal without words.
+    /// Notes a request, and returns the reply to it. If there is no memory for a refusal's words, the reply is a refusal without
+    /// words. If memory ran out for these or for the note, `into_requests` returns `None`.
     pub fn answer(
         &self,
         alloc: Global,
@@ -110,7 +115,7 @@ impl<'a> Recorder<'a> {
         Ok(())
     }
 
-    /// What was asked, as it is written. None where memory ran out.
+    /// Returns the lines of all requests, or `None` if memory ran out for one, or for the words of a refusal.
     pub fn into_requests(self) -> Option<Vec<u8>> {
         if self.lacks_memory.get() {
             return None;
@@ -119,7 +124,7 @@ impl<'a> Recorder<'a> {
     }
 }
 
-/// Writes what is asked: the public identifier, and the system identifier.
+/// Writes the line of a request: the public identifier and the system identifier.
 fn write_request<W: Write>(public_id: Option<&str>, uri: &str, out: &mut W) -> io::Result<()> {
     let mut out = Output::new(out);
     write_text("REQ ", public_id, &mut out);

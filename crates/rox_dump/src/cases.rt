@@ -10,7 +10,9 @@ use rox_programs::input::decode;
 /// A text of a batch, and what follows it.
 #[derive(Clone, Copy)]
 pub struct Case<'a> {
+    /// The bytes of the text.
     pub text: &'a [u8],
+    /// The bytes of the batch after the line feed that follows the text.
     pub rest: &'a [u8],
 }
 

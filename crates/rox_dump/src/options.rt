@@ -46,11 +46,13 @@ pub enum AnswerWord<'a> {
 /// What the words after the program's name ask for.
 #[derive(Drop)]
 pub struct Command<'a> {
+    /// How texts are read, and what is written of them.
     pub options: Options,
-    /// The answers to the first declaration, to the second, and so on.
+    /// The answers to the first request, the second, and so on; the last answers all later requests.
     pub answers: Vec<AnswerWord<'a>>,
-    /// The file of the text that is read in the place of the input's, which answer for its external entities.
+    /// The file of the main text. If there is one, it is parsed for each text of the input, which is then the answer to every
+    /// request.
     pub main: Option<&'a str>,
-    /// The file that is read, or None for standard input.
+    /// The file that is read, or `None` for standard input.
     pub file: Option<&'a str>,
 }

@@ -11,9 +11,9 @@ use rox_programs::program_error::ProgramError;
 use std::alloc::Global;
 use std::io::{Read, Write};
 
-/// Reads the input and writes the dump of its text, or of each text of a batch. The answer is the exit status. A fault is a
-/// line on `err`: status 1 for want of memory, 2 for input that cannot be read, that is not UTF-8 or no batch, and for output
-/// that cannot be written. An `input` of None is a file that could not be opened.
+/// Reads the input, and writes the dump of its text or of each text of a batch. Returns the exit status: 0 if all went well, 1 if
+/// memory runs out, 2 for input that cannot be read, is not UTF-8 or is no batch, and for output that cannot be written. A fault
+/// is a line on `err`. An `input` of `None` is a file that could not be opened.
 pub fn run<I: Read + Drop, O: Write, E: Write>(
     alloc: Global,
     options: Options,
@@ -52,7 +52,8 @@ fn write_input<I: Read + Drop, O: Write>(
     Ok(())
 }
 
-/// The text of a file.
+/// Returns the text of a file. Fails with `CannotRead` if it cannot be read, with `NotUtf8` if it is not UTF-8, and with
+/// `OutOfMemory` if memory runs out. An `input` of `None` is a file that could not be opened.
 pub fn read_text<I: Read + Drop>(alloc: Global, input: Option<I>) -> Result<String, ProgramError>
     ensures { IsNone input → IsErrOf result ProgramError.CannotRead }
 {

@@ -10,13 +10,13 @@ use std::io::Write;
 /// What is read beside the input.
 #[derive(Drop)]
 pub struct Sources {
-    /// What the resolver of external entities answers.
+    /// The answers to the first request, the second, and so on; the last answers all later requests.
     pub answers: Vec<Answer>,
-    /// The text that is read in the place of the input's, which answer for its external entities.
+    /// The main text. If there is one, it is parsed for each text of the input, which is then the answer to every request.
     pub main: Option<String>,
 }
 
-/// Writes the dump of a text, or that of the main text with this one for its external entities.
+/// Writes the dump of a text, or that of the main text with this one as the answer to every request.
 pub fn write_text<W: Write>(
     alloc: Global,
     text: &str,
