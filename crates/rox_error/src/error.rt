@@ -21,42 +21,43 @@ use std::alloc::{AllocError, AllocFailed};
 /// ```
 #[derive(Debug, Drop, PartialEq, Eq, Hash)]
 pub enum Error<'w> {
-    /// The prefix `xml` is declared with a URI other than its own (Namespaces in XML 3).
+    /// The prefix `xml` is declared with a URI other than its own (Namespaces in XML 1.0 section 3).
     InvalidXmlPrefixUri(TextPos),
-    /// The URI of the prefix `xml` is declared for another prefix, or for the default namespace (Namespaces in XML 3).
+    /// The URI of the prefix `xml` is declared for another prefix, or for the default namespace (Namespaces in XML 1.0 section 3).
     UnexpectedXmlUri(TextPos),
-    /// The URI of the prefix `xmlns` is declared (Namespaces in XML 3).
+    /// The URI of the prefix `xmlns` is declared (Namespaces in XML 1.0 section 3).
     UnexpectedXmlnsUri(TextPos),
-    /// The name of an element has the prefix `xmlns` (Namespaces in XML 3).
+    /// The name of an element has the prefix `xmlns` (Namespaces in XML 1.0 section 3).
     InvalidElementNamePrefix(TextPos),
-    /// A start tag declares a prefix twice, or the default namespace twice (XML 1.0 3.1). Keeps the prefix; for the default
+    /// A start tag declares a prefix twice, or the default namespace twice (XML 1.0 section 3.1). Keeps the prefix; for the default
     /// namespace the word `xmlns`.
     DuplicatedNamespace(String, TextPos),
-    /// A name has a prefix that is not declared (Namespaces in XML 5), or an element has the prefix `xml`. Keeps the prefix.
+    /// A name has a prefix that is not declared (Namespaces in XML 1.0 section 5), or an element has the prefix `xml`. Keeps the
+    /// prefix.
     UnknownNamespace(String, TextPos),
-    /// The name of an end tag differs from that of the innermost open element (XML 1.0 3). Keeps the expected name, then the name
-    /// in the tag.
+    /// The name of an end tag differs from that of the innermost open element (XML 1.0 section 3). Keeps the expected name, then
+    /// the name in the tag.
     UnexpectedCloseTag(String, String, TextPos),
-    /// An end tag in a replacement text is for an element that was opened outside of that text (XML 1.0 4.3.2).
+    /// An end tag in a replacement text is for an element that was opened outside of that text (XML 1.0 section 4.3.2).
     UnexpectedEntityCloseTag(TextPos),
-    /// A reference is to an entity that is not declared (XML 1.0 4.1). Keeps the name of the entity.
+    /// A reference is to an entity that is not declared (XML 1.0 section 4.1). Keeps the name of the entity.
     UnknownEntityReference(String, TextPos),
-    /// A reference is not well formed (XML 1.0 4.1).
+    /// A reference is not well formed (XML 1.0 section 4.1).
     MalformedEntityReference(TextPos),
     /// References are nested more than ten deep, or a reference of the text opens more than 256 replacement texts.
     EntityReferenceLoop(TextPos),
     /// A replacement text in the value of an attribute has a `<`, or a reference gives a `<` in such a text or in a value that is
-    /// written in a replacement text or an answer (XML 1.0 3.1). The standard allows a reference that gives `<`, as in
+    /// written in a replacement text or an answer (XML 1.0 section 3.1). The standard allows a reference that gives `<`, as in
     /// `<!ENTITY a '&lt;'>`. For a `<` in the value itself the error is `InvalidChar`.
     InvalidAttributeValue(TextPos),
-    /// Two attributes of an element have the same expanded name (Namespaces in XML 6.3). Keeps the local name.
+    /// Two attributes of an element have the same expanded name (Namespaces in XML 1.0 section 6.3). Keeps the local name.
     DuplicatedAttribute(String, TextPos),
     /// The text has no root element, or ends in its start tag, right after the name or an attribute.
     NoRootNode,
     /// The text ends inside the root element, after its start tag.
     UnclosedRootNode,
-    /// `<?xml` and a space (U+0020) are elsewhere than at the start of the text or of an answer (XML 1.0 2.8). Without the space
-    /// after it, `<?xml` starts a processing instruction.
+    /// `<?xml` and a space (U+0020) are elsewhere than at the start of the text or of an answer (XML 1.0 section 2.8). Without the
+    /// space after it, `<?xml` starts a processing instruction.
     UnexpectedDeclaration(TextPos),
     /// The text has a document type declaration, and `ParsingOptions::allow_dtd` is false.
     DtdDetected,
@@ -67,9 +68,9 @@ pub enum Error<'w> {
     /// The elements of the document would list more than 65,535 distinct pairs of a prefix and its URI. The default namespace
     /// counts like a prefix.
     NamespacesLimitReached,
-    /// A Name (XML 1.0 2.3) or a QName (Namespaces in XML 4) is expected and missing.
+    /// A Name (XML 1.0 section 2.3) or a QName (Namespaces in XML 1.0 section 4) is expected and missing.
     InvalidName(TextPos),
-    /// A character is not allowed in XML (XML 1.0 2.2). Keeps the character.
+    /// A character is not allowed in XML (XML 1.0 section 2.2). Keeps the character.
     NonXmlChar(char, TextPos),
     /// One byte is expected, and another one is there. Keeps the expected byte, then the one that is there.
     InvalidChar(u8, u8, TextPos),
@@ -77,15 +78,15 @@ pub enum Error<'w> {
     InvalidChar2(&'w str, u8, TextPos),
     /// A fixed text, such as `version`, is expected and missing. Keeps that text.
     InvalidString(&'w str, TextPos),
-    /// The definition of an entity starts with `S` or `P`, but not with `SYSTEM` or `PUBLIC` (XML 1.0 4.2.2). If it starts with
-    /// another character that is not a quote, the error is `InvalidChar2`.
+    /// The definition of an entity starts with `S` or `P`, but not with `SYSTEM` or `PUBLIC` (XML 1.0 section 4.2.2). If it starts
+    /// with another character that is not a quote, the error is `InvalidChar2`.
     InvalidExternalID(TextPos),
     /// The resolver refused a request. Keeps a position in the declaration that the request is for, after its external identifier,
     /// and the words of the resolver.
     EntityResolver(TextPos, String),
-    /// A comment contains `--`, or ends in `-` (XML 1.0 2.5).
+    /// A comment contains `--`, or ends in `-` (XML 1.0 section 2.5).
     InvalidComment(TextPos),
-    /// Character data contains `]]>` (XML 1.0 2.4).
+    /// Character data contains `]]>` (XML 1.0 section 2.4).
     InvalidCharacterData(TextPos),
     /// No construct of the grammar starts here, or an `<!ELEMENT`, `<!ATTLIST` or `<!NOTATION` of the document type declaration that
     /// starts here has no `>`.

@@ -81,8 +81,9 @@ fn last_line(front: &str) -> &str
 }
 
 /// Returns the position of the character at the offset `at` of `text`, in bytes. Inside of a character this is the position of that
-/// character, and past the end that of the end. A row ends with each line feed (XML 1.0 2.11). A row or a column greater than
-/// `u32::MAX` is returned as `u32::MAX`. Reads the text up to `at` once.
+/// character, and past the end that of the end. A row ends only at a line feed; XML 1.0 section 2.11 also takes a CR without a line
+/// feed after it as a line end. A row or a column greater than `u32::MAX` is returned as `u32::MAX`. Reads the text up to `at`
+/// once.
 #[tactic(auto, unfolding(rox_grammar::specs::Positions::row_of, rox_grammar::specs::Positions::col_of))]
 pub fn text_pos_at(text: &str, at: usize) -> TextPos
     ensures row { result.row ≡ spec.row_of text.now at }
