@@ -1,4 +1,4 @@
-//! Why the program prints no measure.
+//! The faults with which the program ends.
 
 ghost use Rattle.std.specs.Prelude.{◌≡◌};
 ghost use Rattle.rox_programs.specs.declared.program_error.ProgramError.TheVariants.{CannotWrite, OutOfMemory};
@@ -8,16 +8,16 @@ use rox_programs::program_error::ProgramError;
 use std::alloc::{AllocError, AllocFailed};
 use std::{fmt, io};
 
-/// Why the program could not do what it was asked.
+/// The reason why the program could not do what it was asked.
 #[derive(Drop)]
 pub enum Fault {
     /// The text is refused.
     Refused(roxmltree::Error),
     /// The clock could not be read.
     NoClock,
-    /// A walk came to another sum than the one before it.
+    /// The walks of a turn came to another sum than that of one walk times their number.
     UnequalWalks,
-    /// A fault that each of the programs can tell.
+    /// A fault that all programs may report.
     Program(ProgramError),
 }
 
@@ -49,7 +49,7 @@ impl<T: Drop> From<AllocFailed<T>> for Fault {
     }
 }
 
-/// Of a writer.
+/// The error of a writer.
 impl From<io::Error> for Fault {
     ghost from_gives = { λ _ fault. fault ≡ Program CannotWrite };
 
@@ -77,7 +77,7 @@ impl From<roxmltree::Error> for Fault {
 impl Fault {
     ghost use Rattle.rox_measures.specs.Fault.{status_of};
 
-    /// The exit status: 1 for a text that is refused, for unequal walks and for want of memory, 2 for all other faults.
+    /// Returns the exit status: 1 for a refused text, for unequal walks and if memory runs out, 2 for all other faults.
     pub fn status(&self) -> u8
         ensures { result ≡ status_of self.now }
     {

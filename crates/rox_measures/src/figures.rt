@@ -1,11 +1,11 @@
-//! What is told of a list of times: the best, the median, and rates.
+//! Figures of a list of times: the shortest, the median, and rates.
 
 ghost use Rattle.std.specs.Prelude.{◌≡◌, ◌≤◌, ◌*◌, ◌/◌, ◌↔◌, [], length, max, All, Contains, IsNone, IfSome, MatchOption, Some, slice_get, IsSorted, IsPermutation};
 ghost use Rattle.std.specs.Ordering.{nat_cmp};
 
 use std::fmt;
 
-/// The shortest of these times.
+/// Returns the shortest of these times, or `None` if there is none.
 pub fn best(times: &[u64]) -> Option<u64>
     ensures none { IsNone result ↔ (times.now ≡ []) }
     ensures among { IfSome result (Contains times.now) }
@@ -14,7 +14,7 @@ pub fn best(times: &[u64]) -> Option<u64>
     times.iter().copied().min()
 }
 
-/// Sorts the times, and answers the one in the middle: of an even number the later one of the two.
+/// Sorts the times, and returns the middle one, of two the longer, or `None` if there is none.
 pub fn median(times: &mut [u64]) -> Option<u64>
     ensures permutation { IsPermutation times.old times.new }
     ensures sorted { IsSorted nat_cmp times.new }
@@ -29,7 +29,7 @@ pub fn median(times: &mut [u64]) -> Option<u64>
     }
 }
 
-/// A number with one digit behind the point, cut off and not rounded.
+/// A number with one digit after the point; further digits are cut off.
 #[derive(Clone, Copy)]
 pub struct Tenths {
     /// Ten times the number.
@@ -43,7 +43,7 @@ impl fmt::Display for Tenths {
     }
 }
 
-/// What one of so many parts has of a whole. No parts count as one.
+/// Returns `whole` divided by `parts`, or by 1 if `parts` is 0.
 pub fn share(whole: u64, parts: u64) -> Tenths
     ensures { result.tenths ≡ whole * 10 / max parts 1 }
 {
@@ -52,8 +52,8 @@ pub fn share(whole: u64, parts: u64) -> Tenths
     }
 }
 
-/// Megabytes a second, of 1,000,000 bytes, where so many bytes are gone through so many times in this time. No time counts
-/// as a nanosecond.
+/// Returns the megabytes (1,000,000 bytes) a second if `bytes` bytes are read `repeats` times in `nanoseconds`. A time of 0
+/// counts as 1.
 pub fn megabytes_per_second(bytes: u64, repeats: u32, nanoseconds: u64) -> Tenths
     ensures { result.tenths ≡ bytes * repeats * 10_000 / max nanoseconds 1 }
 {

@@ -86,15 +86,16 @@ use crate::work::Work;
 use std::alloc::Global;
 use std::time::CpuClock;
 
-/// How many nanoseconds a turn lasts, about, where the work alone is shorter.
+/// About how many nanoseconds a turn lasts, unless one repeat takes longer.
 const TURN: u64 = 1_000_000;
 
-/// How often a work is repeated in a turn, at most.
+/// The most repeats of a work in a turn.
 const MOST_REPEATS: u64 = 1_000_000;
 
-/// How many turns there are at least, and at most.
+/// The fewest turns.
 const FEWEST: usize = 7;
 
+/// The most turns.
 const MOST: usize = 1_000_000;
 
 /// The times of some turns.
@@ -106,8 +107,9 @@ pub struct Turns {
     pub times: Vec<u64>,
 }
 
-/// Does a work in turns until so many nanoseconds are used up, but seven times at least. Two turns before are not counted:
-/// they fill caches and the allocator's lists, and show how often the work is to be repeated in a turn.
+/// Returns the times of turns of a work, which together take about `budget` nanoseconds; there are at least 7 and at most
+/// 1,000,000. Two turns before them are not counted: they fill caches and the allocator's lists, and show how often to repeat the
+/// work. Fails if a turn fails, if the clock cannot be read, and if memory runs out.
 pub fn measure<R: CpuClock, W: Work>(
     alloc: Global,
     clock: &R,
@@ -129,7 +131,7 @@ pub fn measure<R: CpuClock, W: Work>(
     Ok(Turns { repeats, times })
 }
 
-/// How often a work that takes so many nanoseconds is repeated in a turn.
+/// Returns how often to repeat, in a turn, a work that takes `time` nanoseconds.
 fn repeats_for(time: u64) -> u32
     ensures { result ≡ max 1 (min (TURN / max time 1) MOST_REPEATS) }
 {

@@ -14,8 +14,8 @@
 
 use roxmltree::{Document, Node};
 
-/// Goes over each node: its tag name and all its attributes, with names, namespaces and values, or its text. The answer is
-/// `start` and, for each node, one more and the bytes of these strings. Sums wrap.
+/// Reads of each node the tag name and all attributes, with names, namespaces and values, or the text. Returns the sum of `start`
+/// and, for each node, 1 and the bytes of these strings. Sums wrap.
 #[inline(never)]
 pub fn walk(document: &Document<'_>, start: u64) -> u64 {
     let mut sum = start;
@@ -51,8 +51,8 @@ fn uri_weight(uri: Option<&str>) -> u64 {
     uri.map_or(0, |uri| uri.len() as u64)
 }
 
-/// Goes over each node in document order by `first_child`, `next_sibling` and `parent`. The answer is `start` and one more
-/// for each node. Sums wrap.
+/// Visits each node in document order by `first_child`, `next_sibling` and `parent`. Returns the sum of `start` and 1 for each
+/// node. Sums wrap.
 #[inline(never)]
 pub fn walk_links(document: &Document<'_>, start: u64) -> u64 {
     let mut count = start;
@@ -83,11 +83,14 @@ fn next_beside<'a, 'input>(node: Node<'a, 'input>) -> Option<Node<'a, 'input>> {
     None
 }
 
-/// How many of each there are in a document.
+/// Numbers of parts of a document.
 #[derive(Clone, Copy)]
 pub struct Census {
+    /// The number of nodes, the root node among them.
     pub nodes: u64,
+    /// The number of elements.
     pub elements: u64,
+    /// The number of attributes of all elements, without declarations of namespaces.
     pub attributes: u64,
 }
 

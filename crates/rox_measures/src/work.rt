@@ -11,14 +11,16 @@ use std::time::CpuClock;
 
 /// A work that can be done again and again.
 pub trait Work {
-    /// Does the work so many times, and answers the nanoseconds that it took.
+    /// Does the work `repeats` times, and returns the nanoseconds that it took.
     fn turn<R: CpuClock>(&self, clock: &R, repeats: u32) -> Result<u64, Fault>;
 }
 
 /// Parses a text and drops the document.
 #[derive(Clone, Copy)]
 pub struct ParseAndDrop<'t> {
+    /// The allocator of the documents.
     pub alloc: Global,
+    /// The text that is parsed.
     pub text: &'t str,
 }
 
@@ -35,7 +37,9 @@ impl Work for ParseAndDrop<'_> {
 /// Parses a text. Drops are not timed.
 #[derive(Clone, Copy)]
 pub struct Parse<'t> {
+    /// The allocator of the documents.
     pub alloc: Global,
+    /// The text that is parsed.
     pub text: &'t str,
 }
 
@@ -51,10 +55,12 @@ impl Work for Parse<'_> {
     }
 }
 
-/// Walks over the nodes of a document, and wants this sum.
+/// Walks over the nodes of a document. A turn fails if its walks together do not add `sum` for each.
 #[derive(Clone, Copy)]
 pub struct Walk<'d> {
+    /// The document.
     pub document: &'d Document<'d>,
+    /// What `walk` adds to its start for this document.
     pub sum: u64,
 }
 
@@ -71,10 +77,12 @@ impl Work for Walk<'_> {
     }
 }
 
-/// Walks over the links between the nodes of a document, and wants this count of nodes.
+/// Walks over the links between the nodes of a document. A turn fails if its walks together do not add `nodes` for each.
 #[derive(Clone, Copy)]
 pub struct WalkLinks<'d> {
+    /// The document.
     pub document: &'d Document<'d>,
+    /// What `walk_links` adds to its start for this document: the number of its nodes.
     pub nodes: u64,
 }
 
@@ -90,7 +98,8 @@ impl Work for WalkLinks<'_> {
     }
 }
 
-/// The time of a turn, where all its walks together came to so many times what one comes to. Sums wrap.
+/// Returns the time of a turn if its walks together came to `repeats` times `one`, by sums that wrap, and otherwise fails with
+/// `UnequalWalks`.
 fn confirmed(time: u64, sum: u64, one: u64, repeats: u32) -> Result<u64, Fault>
     ensures { MatchResult result (λ t. (t ≡ time) × (sum ≡ one * repeats % 2 ^ 64))
         (λ fault. (fault ≡ Fault.UnequalWalks) × (sum ≢ one * repeats % 2 ^ 64)) }

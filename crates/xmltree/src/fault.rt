@@ -1,4 +1,4 @@
-//! The reasons why the program prints nothing.
+//! The faults with which the program ends.
 
 ghost use Rattle.std.specs.Prelude.{◌≡◌};
 
