@@ -14,23 +14,23 @@ use roxmltree::{Document, Error, Node, NodeId};
 use std::fmt::Debug;
 use std::process::Abort;
 
-/// Wants a value to be this. Where it is not, what it is of is told with both.
+/// Asserts that `got` equals `wanted`. A failure prints both, and `of`, which names what was compared.
 fn same<T: PartialEq + Debug + Drop>(rt: &impl Abort, of: &str, got: T, wanted: T) {
     assert_eq!(rt; got, wanted, "{of:?}");
 }
 
-/// The document of a text that is read.
+/// Returns the document of a text, and fails if the text is refused.
 fn document_of<'input>(rt: &(impl Abort + AllocGlobal), text: &'input str) -> Document<'input> {
     Document::parse(rt.alloc(), text).expect(rt, text)
 }
 
-/// Wants a text to be refused so.
+/// Asserts that a text is refused with this error.
 fn is_refused(rt: &(impl Abort + AllocGlobal), text: &str, wanted: Error) {
     let error = Document::parse(rt.alloc(), text).err();
     same(rt, text, error, Some(wanted));
 }
 
-/// The node of this id.
+/// Returns the node with this id, and fails if there is none.
 fn node_of<'a, 'input>(
     document: &'a Document<'input>,
     rt: &impl Abort,
@@ -41,7 +41,7 @@ fn node_of<'a, 'input>(
         .expect(rt, "no node of this id")
 }
 
-/// How many children the root element of a document has.
+/// Returns the number of children of the root element of a document.
 fn child_count(document: &Document<'_>) -> usize {
     document.root_element().children().count()
 }

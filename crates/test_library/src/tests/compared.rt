@@ -92,7 +92,7 @@ fn equal_nodes_have_equal_hashes(rt: HostRuntime) {
     same(&rt, "hash", hash_of(one), hash_of(other));
 }
 
-/// The clauses of `clone` say what copies are, but not that there may be one.
+/// The clauses of `clone` say what a copy is, but not that `clone` returns one.
 #[test]
 fn copies_of_texts(rt: HostRuntime) {
     let text = StringStorage::new_owned(rt.alloc(), "text").expect(&rt, "memory");

@@ -85,7 +85,7 @@ fn texts_of_pieces(rt: HostRuntime) {
     }
 }
 
-/// What is asked where a document type declaration may stand, and this resolver answers.
+/// Returns options that allow a document type declaration, with this resolver.
 fn answered_by<R>(resolver: R) -> ParsingOptions<R>
     ensures { result.entity_resolver ≡ Some resolver }
 {

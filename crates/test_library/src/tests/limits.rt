@@ -4,7 +4,7 @@ use super::{child_count, document_of, is_refused, same};
 use roxmltree::{Document, Error, ParsingOptions, TextPos};
 use std::alloc::{AllocError, Global};
 
-/// An element with so many children behind how it begins, each of which declares another URI.
+/// Returns `open`, `count` elements that each declare another URI, and `</r>`.
 pub(super) fn declaring(alloc: Global, open: &str, count: u32) -> Result<String, AllocError> {
     let mut text = String::from_str(alloc, open)?;
     for uri in 1..=count {
@@ -46,7 +46,7 @@ fn messages(rt: HostRuntime) {
     }
 }
 
-/// So many entities, each with its number for its text, and a reference to each from the last on.
+/// Returns a text with `count` entities, whose texts are their numbers and a comma, and references to them, the last first.
 fn numbered(alloc: Global, count: u32) -> Result<String, AllocError> {
     let mut text = String::from_str(alloc, "<!DOCTYPE r [")?;
     for number in 0..count {
@@ -60,7 +60,7 @@ fn numbered(alloc: Global, count: u32) -> Result<String, AllocError> {
     Ok(text)
 }
 
-/// The numbers below this one, from the last on, with a comma behind each.
+/// Returns the numbers below `count`, the greatest first, each with a comma after it.
 fn numbers_from_the_last(alloc: Global, count: u32) -> Result<String, AllocError> {
     let mut text = String::new(alloc);
     for number in (0..count).rev() {

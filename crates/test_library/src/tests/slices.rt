@@ -35,7 +35,7 @@ const NESTED: &str = "<a><b xmlns:p='1'><c/></b><d/></a>";
 
 const KINDS: &str = "<r>t<!--c--><?p?></r>";
 
-/// In a document with a document type declaration no element is: what its references stand for is said outside it.
+/// No element of a document with a document type declaration is: its references depend on the declaration.
 #[test]
 fn which_are_self_contained(rt: HostRuntime) {
     for (text, id, wanted) in &[
@@ -60,7 +60,7 @@ fn which_are_self_contained(rt: HostRuntime) {
     }
 }
 
-/// Wants the node of this id to stand by itself, or not to.
+/// Asserts that `is_self_contained` of the node with this id returns `wanted`.
 fn is_self_contained(rt: &(impl Abort + AllocGlobal), text: &str, id: u32, wanted: bool) {
     let mut options = ParsingOptions::default();
     options.allow_dtd = true;

@@ -26,7 +26,7 @@ fn with_one(scopes: &mut Vec<Scope>, from: u32, scope: u32) -> Result<u32, Alloc
     both(scopes, own, scope)
 }
 
-/// A row of stretches of one place each, the last one first: so do elements list that declare one each, one in another.
+/// Returns a scope of 4,000 stretches of one place, the last first, as nested elements make that declare one prefix each.
 fn nested(scopes: &mut Vec<Scope>) -> Result<u32, AllocError>
     requires { AreRows scopes.old.items }
     ensures { IfOk result (λ s. IsRow scopes.new.items s) }
