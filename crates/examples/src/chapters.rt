@@ -7,7 +7,9 @@ use std::cell::RefCell;
 /// A file that an external entity names, and its text.
 #[derive(Drop)]
 pub struct Chapter {
+    /// The system identifier of the entity.
     pub name: String,
+    /// The text of the file.
     pub text: String,
 }
 

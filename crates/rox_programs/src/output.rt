@@ -6,7 +6,9 @@ use std::io::Write;
 /// A writer, and the result of what was written. After its first error nothing more is written, so only the end of a text has to
 /// check `result`. It has no `Drop`, so it has to end in `into_result`.
 pub struct Output<'o, W: Write> {
+    /// The writer.
     pub writer: &'o mut W,
+    /// The first error of the writer, or `Ok` if there was none yet.
     pub result: io::Result<()>,
 }
 

@@ -26,12 +26,19 @@ use roxmltree::{Attribute, Namespace, StringStorage};
 /// What the calls of an attribute answer.
 #[derive(Clone, Copy)]
 pub struct AttributeAnswers<'a, 'input> {
+    /// The offset of its first byte, from 0.
     pub start: usize,
+    /// The offset after its name.
     pub name_end: usize,
+    /// The offset of its value, after the quote.
     pub value_start: usize,
+    /// The offset after its closing quote.
     pub end: usize,
+    /// The URI of its namespace, or `None` if it has none.
     pub namespace: Option<&'a str>,
+    /// Its local name.
     pub name: &'input str,
+    /// Its value.
     pub value: &'a str,
     /// Whether the value is `Borrowed`.
     pub borrowed: bool,
@@ -67,7 +74,9 @@ fn is_slice(text: &StringStorage<'_>) -> bool
 /// What the calls of a namespace answer.
 #[derive(Clone, Copy)]
 pub struct NamespaceAnswers<'a, 'input> {
+    /// Its prefix, or `None` for the default namespace.
     pub name: Option<&'input str>,
+    /// Its URI.
     pub uri: &'a str,
 }
 

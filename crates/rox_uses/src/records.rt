@@ -14,7 +14,9 @@ use std::fmt;
 /// What a row says.
 #[derive(Debug, Drop)]
 pub struct Record {
+    /// The value of its attribute `name`.
     pub name: String,
+    /// The value of its attribute `value`.
     pub value: String,
 }
 
@@ -23,6 +25,7 @@ pub struct Record {
 pub enum RecordsError {
     /// The row that starts at this byte lacks its name or its value.
     Incomplete(usize),
+    /// Memory ran out.
     OutOfMemory,
 }
 

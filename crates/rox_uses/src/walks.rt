@@ -79,8 +79,8 @@ pub fn last_with_id<'a, 'input>(
         .last()
 }
 
-/// Returns the source of a node: the slice of the document's text that its range selects. Returns `None` if the range is none of
-/// that text, as the range of a node that comes from an answer of the resolver may be.
+/// Returns the slice of the document's text that a node's range selects, or `None` if the range does not fit that text. For a
+/// node from a resolver's answer the range counts in that answer, so the slice is not its source.
 pub fn source_of<'input>(node: Node<'_, 'input>) -> Option<&'input str>
     ensures some { IfSome result
         (λ source. source.now

@@ -7,7 +7,9 @@ use std::borrow::CowStr;
 /// A name and its value.
 #[derive(Drop)]
 pub struct Entry<'a> {
+    /// The name of an attribute, with its URI, or the prefix of a namespace.
     pub name: CowStr<'a>,
+    /// The value of the attribute, or the URI of the namespace.
     pub value: &'a str,
 }
 
