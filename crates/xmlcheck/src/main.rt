@@ -9,12 +9,13 @@ use std::process::ExitCode;
 use std::{env, fs, io, str};
 
 const HELP: &str = "usage: xmlcheck [--allow-dtd] FILE..
-Prints FILE:ROW:COLUMN: MESSAGE, the line and a caret for each file that is not well formed.
+Checks that files are well formed. For each that is refused, prints FILE:ROW:COLUMN: MESSAGE, the
+line and a caret, or FILE: MESSAGE.
   --allow-dtd  accepts document type declarations in all files
   -h, --help   prints this text
-A fault goes to the standard output, and a file that cannot be read to the standard error. A file
-that is not UTF-8 cannot be read. Control characters, except TAB, are printed as U+FFFD.
-The status is 0 if all files are well formed, 1 if one is not, and 2 if one cannot be read.";
+Faults go to the standard output. Why a file cannot be read, or is not UTF-8, goes to the standard
+error. Control characters, except TAB, are printed as U+FFFD. The status is 0 if no file is refused,
+1 if one is, and 2 if one cannot be read or an argument is wrong; the highest counts.";
 
 /// Runs the command, and reports an input or output that failed.
 fn main(rt: HostRuntime) -> ExitCode {
