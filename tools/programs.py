@@ -75,6 +75,11 @@ def kit():
     return os.path.dirname(ran.stdout.split()[-1])
 
 
+def logic_words():
+    """The words by which the prover finds the kit's logic."""
+    return ["--antt-project", f"{kit()}/rattle/logic/antt-project.json", "--logic-built", f"{kit()}/logic_built"]
+
+
 @functools.lru_cache(maxsize=None)
 def rtlib():
     """The module of the kit's `rt`: before a command its `guarded()` has this command's end be that of the other one."""
