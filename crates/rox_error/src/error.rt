@@ -218,10 +218,7 @@ impl Error<'_> {
     pub fn pos(&self) -> TextPos
         ensures { result ≡ position_of self.now }
     {
-        match self.position() {
-            Some(position) => position,
-            None => TextPos::new(1, 1),
-        }
+        self.position().unwrap_or(TextPos::new(1, 1))
     }
 }
 

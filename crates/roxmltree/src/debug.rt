@@ -19,7 +19,7 @@ impl fmt::Debug for Document<'_> {
             let around = count_around(&node);
             done = close_elements(f, done, around, open);
             done = write_node(f, done, &node, around);
-            open = open_after(&node, around);
+            open = around.saturating_add(node.has_children() as usize);
         }
         done = close_elements(f, done, 0, open);
         write_line(f, done, 0, 0, "]\n")
@@ -51,14 +51,6 @@ fn parts_of<'a, 'input>(element: &Node<'a, 'input>) -> ElementParts<'a, 'input> 
 // Returns how many elements are around a node that is not the root node.
 fn count_around(node: &Node<'_, '_>) -> usize {
     node.ancestors().count().saturating_sub(2)
-}
-
-// Returns how many elements are open after a node that is inside `around` elements.
-fn open_after(node: &Node<'_, '_>, around: usize) -> usize {
-    if node.has_children() {
-        return around.saturating_add(1);
-    }
-    around
 }
 
 // Prints a node that is inside `around` elements. An element with children is left open.

@@ -20,8 +20,8 @@ pub(crate) enum Axis {
     LastChildren,
 }
 
-/// An iterator over a node and those after it along an axis. A node is looked for only when it is asked for, as each step back
-/// climbs.
+/// An iterator over a node and those after it along an axis. Each node is found only when it is asked for, since a step to an
+/// earlier sibling or a last child has to climb.
 ///
 /// ```
 /// let document = Document::parse(alloc, "<r lang='en'><a><b/></a></r>")?;
@@ -58,8 +58,21 @@ impl<'a, 'input> Model for AxisIter<'a, 'input> {
 }
 
 impl<'a, 'input> AxisIter<'a, 'input> {
+    ghost use Rattle.std.specs.Prelude.{Some};
     ghost use Rattle.roxmltree.specs.AxisNodes.{axis_nodes_from, after_first};
     ghost use Rattle.roxmltree.specs.NodeRef.{node_ref};
+
+    /// Returns an iterator over `node` and those after it along `axis`.
+    #[inline(always)]
+    pub(crate) fn along(axis: Axis, node: Node<'a, 'input>) -> AxisIter<'a, 'input>
+        ensures { result ≡ axis_nodes_from axis (Some node.entry) }
+    {
+        AxisIter {
+            node: Some(node),
+            axis,
+            given: false,
+        }
+    }
 
     /// Returns the node after this one along an axis, or `None` if there is none.
     #[inline(always)]
@@ -164,7 +177,7 @@ impl<'a, 'input> Iterator for AxisIter<'a, 'input> {
     }
 }
 
-/// An iterator, from both ends, over those of a node and its descendants that are left, in document order.
+/// An iterator over a node and its descendants in document order, from both ends.
 ///
 /// ```
 /// let document = Document::parse(alloc, "<r>one<a>two</a></r>")?;
@@ -301,7 +314,7 @@ impl<'a, 'input> DoubleEndedIterator for Descendants<'a, 'input> {
     }
 }
 
-/// An iterator, from both ends, over the children of one node that are left.
+/// An iterator over the children of a node in document order, from both ends.
 ///
 /// ```
 /// let document = Document::parse(alloc, "<r>one<a/>two</r>")?;

@@ -152,10 +152,7 @@ impl<'a, 'input> Node<'a, 'input> {
             ≡ option_map
             (λ a. a.value) (named (expanded name.entry) (attributes_of (item_of self.now))) }
     {
-        match self.attribute_node(name) {
-            Some(attribute) => Some(attribute.value()),
-            None => None,
-        }
+        Some(self.attribute_node(name)?.value())
     }
 
     /// Returns whether there is an attribute with this expanded name.

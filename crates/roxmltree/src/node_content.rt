@@ -58,10 +58,7 @@ impl<'a, 'input> Node<'a, 'input> {
     pub fn is_root(&self) -> bool
         ensures { result ≡ is_root_node (item_of self.now) }
     {
-        match self.kind() {
-            KindRef::Root => true,
-            _ => false,
-        }
+        matches!(self.kind(), KindRef::Root)
     }
 
     /// Returns whether it is an element.
@@ -78,10 +75,7 @@ impl<'a, 'input> Node<'a, 'input> {
     pub fn is_pi(&self) -> bool
         ensures { result ≡ is_pi_node (item_of self.now) }
     {
-        match self.kind() {
-            KindRef::PI(_) => true,
-            _ => false,
-        }
+        matches!(self.kind(), KindRef::PI(_))
     }
 
     /// Returns whether it is a comment.
@@ -90,10 +84,7 @@ impl<'a, 'input> Node<'a, 'input> {
     pub fn is_comment(&self) -> bool
         ensures { result ≡ is_comment_node (item_of self.now) }
     {
-        match self.kind() {
-            KindRef::Comment(_) => true,
-            _ => false,
-        }
+        matches!(self.kind(), KindRef::Comment(_))
     }
 
     /// Returns whether it is a text node.
@@ -164,10 +155,7 @@ impl<'a, 'input> Node<'a, 'input> {
     pub fn text(&self) -> Option<&'a str>
         ensures { option_map (λ s. s.now) result ≡ text (tree_of self.now) (id_of self.now) }
     {
-        match self.text_storage() {
-            Some(text) => Some(text.as_str()),
-            None => None,
-        }
+        Some(self.text_storage()?.as_str())
     }
 
     /// Like `text`, but returns the storage, which distinguishes a slice of the input from an owned text. That of a comment is
@@ -186,10 +174,7 @@ impl<'a, 'input> Node<'a, 'input> {
             ≡ stored_text (tree_of self.now) (id_of self.now) }
     {
         match self.kind() {
-            KindRef::Element(_) => match self.first_child() {
-                Some(child) => child.own_text_storage(),
-                None => None,
-            },
+            KindRef::Element(_) => self.first_child()?.own_text_storage(),
             KindRef::Text(text) | KindRef::Comment(text) => Some(text),
             _ => None,
         }
@@ -209,10 +194,7 @@ impl<'a, 'input> Node<'a, 'input> {
     pub fn tail(&self) -> Option<&'a str>
         ensures { option_map (λ s. s.now) result ≡ tail (tree_of self.now) (id_of self.now) }
     {
-        match self.tail_storage() {
-            Some(text) => Some(text.as_str()),
-            None => None,
-        }
+        Some(self.tail_storage()?.as_str())
     }
 
     /// Like `tail`, but returns the storage, which distinguishes a slice of the input from an owned text.
@@ -224,10 +206,7 @@ impl<'a, 'input> Node<'a, 'input> {
         if !self.is_element() {
             return None;
         }
-        match self.next_sibling() {
-            Some(next) => next.own_text_storage(),
-            None => None,
-        }
+        self.next_sibling()?.own_text_storage()
     }
 
     /// Returns the text of a text node, or `None` on other nodes.

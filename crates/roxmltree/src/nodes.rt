@@ -330,11 +330,7 @@ impl<'a, 'input> Node<'a, 'input> {
         ensures few { length result < 2 ^ 32 }
     {
         let _nodes = self.document.count();
-        AxisIter {
-            node: Some(*self),
-            axis: Axis::Ancestors,
-            given: false,
-        }
+        AxisIter::along(Axis::Ancestors, *self)
     }
 
     /// Returns an iterator over the node itself and its siblings before it, nearest first.
@@ -347,11 +343,7 @@ impl<'a, 'input> Node<'a, 'input> {
         ensures few { length result < 2 ^ 32 }
     {
         let _nodes = self.document.count();
-        AxisIter {
-            node: Some(*self),
-            axis: Axis::PrevSiblings,
-            given: false,
-        }
+        AxisIter::along(Axis::PrevSiblings, *self)
     }
 
     /// Returns an iterator over the node itself and its siblings after it, nearest first.
@@ -364,11 +356,7 @@ impl<'a, 'input> Node<'a, 'input> {
         ensures few { length result < 2 ^ 32 }
     {
         let _nodes = self.document.count();
-        AxisIter {
-            node: Some(*self),
-            axis: Axis::NextSiblings,
-            given: false,
-        }
+        AxisIter::along(Axis::NextSiblings, *self)
     }
 
     /// Returns an iterator over the node itself, its first child, the first child of that, and so on.
@@ -381,11 +369,7 @@ impl<'a, 'input> Node<'a, 'input> {
         ensures few { length result < 2 ^ 32 }
     {
         let _nodes = self.document.count();
-        AxisIter {
-            node: Some(*self),
-            axis: Axis::FirstChildren,
-            given: false,
-        }
+        AxisIter::along(Axis::FirstChildren, *self)
     }
 
     /// Returns an iterator over the node itself, its last child, the last child of that, and so on.
@@ -398,11 +382,7 @@ impl<'a, 'input> Node<'a, 'input> {
         ensures few { length result < 2 ^ 32 }
     {
         let _nodes = self.document.count();
-        AxisIter {
-            node: Some(*self),
-            axis: Axis::LastChildren,
-            given: false,
-        }
+        AxisIter::along(Axis::LastChildren, *self)
     }
 
     /// Returns the nearest ancestor that is an element, or `None` if there is none.
