@@ -230,7 +230,7 @@ impl<'input> Builder<'input> {
     }
 
     /// Adds a piece of text as `piece` does, but a text that it starts waits for its row. Returns false, with the builder unchanged,
-    /// if there are too many nodes. The only error is want of memory.
+    /// if there are too many nodes. It fails only if memory runs out.
     #[inline(always)]
     pub fn waiting_piece(
         &mut self,

@@ -229,7 +229,7 @@ pub fn put_delimited<'input>(
 }
 
 /// Joins the character data at the cursor, up to the next `<`, to the text that waits for its row, if it is a slice of the source.
-/// The only error is want of memory.
+/// It fails only if memory runs out.
 #[inline(always)]
 fn join_run<'input>(
     cursor: &mut Cursor<'input>,
@@ -252,7 +252,7 @@ fn join_run<'input>(
 }
 
 /// Reads the CDATA section at the cursor, if it is valid. Its text is a slice of the source if it has no CR, otherwise it is in
-/// `scratch`. Returns `None` if the section is not valid. The only error is want of memory.
+/// `scratch`. Returns `None` if the section is not valid. It fails only if memory runs out.
 #[inline(always)]
 fn section_piece<'input>(
     cursor: &mut Cursor<'input>,
@@ -273,7 +273,7 @@ fn section_piece<'input>(
 }
 
 /// Reads the CDATA section at the cursor, if one is there and it is valid, and the character data after it, if that is a slice of
-/// the source. Both join the text that may continue. Returns whether anything was read. The only error is want of memory.
+/// the source. Both join the text that may continue. Returns whether anything was read. It fails only if memory runs out.
 #[inline(never)]
 pub fn join_section<'input>(
     cursor: &mut Cursor<'input>,

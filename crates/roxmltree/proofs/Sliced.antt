@@ -13,7 +13,7 @@ use Rattle.roxmltree.specs.NodeParts.{node_at, start_of, end_of}
 use Rattle.roxmltree.proofs.Parsed.{one_tree}
 use Rattle.roxmltree.proofs.Contained.{bounds_are}
 
--- what is no error of the text is want of memory
+-- a failure that is no error of the text is that memory ran out
 pub only_memory : (e : Error) → ((e ≢ error.OutOfMemory) → ⊥) → e ≡ error.OutOfMemory
 only_memory e none = grind arith
 
