@@ -1,6 +1,6 @@
 //! The reading of input.
 
-ghost use Rattle.std.specs.Prelude.{◌≡◌, IfOk, IfSome, IsErrOf, MatchOption, MatchResult, IsUtf8};
+ghost use Rattle.std.specs.Prelude.{◌≡◌, ◌⊎◌, IfOk, IfErr, IfSome, IsErrOf, MatchOption, MatchResult, IsUtf8};
 
 use crate::program_error::ProgramError;
 use std::alloc::Global;
@@ -9,9 +9,10 @@ use std::io::{ErrorKind, Read};
 /// Returns the bytes of the input, to its end. An `input` of `None` is one that could not be opened. Fails with `CannotRead` for
 /// that and if the input cannot be read, and with `OutOfMemory` if memory runs out.
 pub fn read_all<I: Read + Drop>(alloc: Global, input: Option<I>) -> Result<Vec<u8>, ProgramError>
-    ensures { MatchOption input (IsErrOf result ProgramError.CannotRead)
+    ensures read { MatchOption input (IsErrOf result ProgramError.CannotRead)
         (λ reader. IfOk result
         (λ bytes. IfSome (I.remaining reader) (λ left. bytes.items ≡ left))) }
+    ensures refused { IfErr result (λ e. (e ≡ ProgramError.CannotRead) ⊎ (e ≡ ProgramError.OutOfMemory)) }
 {
     let Some(mut input) = input else {
         return Err(ProgramError::CannotRead);
