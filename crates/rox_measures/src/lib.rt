@@ -5,7 +5,6 @@ pub mod arguments;
 pub mod clock;
 pub mod fault;
 pub mod figures;
-pub mod input;
 pub mod memory;
 pub mod report;
 pub mod run;

@@ -1,10 +1,11 @@
 //! How many bytes of memory a document holds.
 
 use crate::fault::Fault;
-use crate::input;
+use rox_programs::input::read_all;
 use rox_programs::program_error::ProgramError;
 use roxmltree::Document;
 use std::alloc::Global;
+use std::fs::File;
 use std::rt::Files;
 
 /// About how many bytes of text are parsed, in copies if one text is shorter: the system counts memory in pages.
@@ -47,7 +48,8 @@ fn each(before: Option<u64>, after: Option<u64>, count: usize) -> Option<u64> {
 
 // Returns the bytes of anonymous memory that the process uses, or `None` if the system does not report them.
 fn in_use<R: Files + AllocGlobal>(rt: &R) -> Result<Option<u64>, ProgramError> {
-    match input::read(rt, "/proc/self/smaps_rollup") {
+    let table = File::open(rt, "/proc/self/smaps_rollup").ok();
+    match read_all(rt.alloc(), table) {
         Ok(table) => Ok(anonymous(&table)),
         Err(ProgramError::OutOfMemory) => Err(ProgramError::OutOfMemory),
         Err(_) => Ok(None),

@@ -2,13 +2,14 @@
 
 use crate::arguments::Command;
 use crate::fault::Fault;
+use crate::memory;
 use crate::report::{Size, write_held, write_turns};
 use crate::turns::measure;
 use crate::walk::{Census, count, walk};
 use crate::work::{Parse, ParseAndDrop, Walk, WalkLinks};
-use crate::{input, memory};
-use rox_programs::input::decode;
+use rox_programs::input::{decode, read_all};
 use roxmltree::Document;
+use std::fs::File;
 use std::io::Write;
 use std::rt::Files;
 use std::time::CpuClock;
@@ -19,7 +20,7 @@ pub fn run<R: Files + AllocGlobal + CpuClock, O: Write>(
     command: &Command,
     out: &mut O,
 ) -> Result<(), Fault> {
-    let bytes = input::read(rt, command.file.as_str())?;
+    let bytes = read_all(rt.alloc(), File::open(rt, command.file.as_str()).ok())?;
     let text = decode(&bytes)?;
     // before anything else is parsed
     let held = memory::held(rt, text)?;
