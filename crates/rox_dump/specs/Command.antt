@@ -1,4 +1,5 @@
-use Rattle.std.specs.Prelude.{ℕ, ◌^◌, Bool, true, false, List, [], ◌∷◌, ◌++◌, ◌==◌, Option, Some, None, codes, map, bytes_eq, nat_lt, option_map, option_and_then, if◌then◌else◌, is_some}
+use Rattle.std.specs.Prelude.{ℕ, ◌^◌, true, false, List, [], ◌∷◌, ◌++◌, Option, Some, None, codes, map, bytes_eq, nat_lt, option_map, option_and_then, if◌then◌else◌, is_some}
+use Rattle.rox_programs.specs.Words.{begins_with_dash}
 use Rattle.rox_dump.specs.Numbers.{number_of}
 use Rattle.rox_dump.specs.declared.options.Options.{Options}
 use Rattle.rox_dump.specs.declared.options.AnswerWord.{AnswerWord}
@@ -77,10 +78,6 @@ with_value a word value =
     else if bytes_eq word (codes "--ans-err") then Some (with_answer a (refusal value))
     else if bytes_eq word (codes "--main") then Some (with_main a value)
     else None)
-
-abbrev pub begins_with_dash : List ℕ → Bool
-begins_with_dash [] = false
-begins_with_dash (byte ∷ _) = byte == 45
 
 -- The meaning of the file's word. `-` is standard input, and no other word that starts with `-` is a file.
 abbrev pub with_file : CommandView → List ℕ → Option CommandView

@@ -1,5 +1,6 @@
-use Rattle.std.specs.Prelude.{ℕ, Bool, false, ◌≡◌, ◌<◌, ◌^◌, List, [], ◌∷◌, ◌==◌, Option, Some, None, string_bytes, if◌then◌else◌, MatchOption}
+use Rattle.std.specs.Prelude.{ℕ, ◌≡◌, ◌<◌, ◌^◌, List, [], ◌∷◌, Option, Some, None, string_bytes, if◌then◌else◌, MatchOption}
 use Rattle.std.specs.Str.Parse.{IsNumeral, digits_value, without_leading_plus}
+use Rattle.rox_programs.specs.Words.{begins_with_dash}
 use Rattle.rox_measures.specs.declared.arguments.Command.{Command}
 
 -- What is asked for: the file that is measured, and for how many seconds.
@@ -10,11 +11,6 @@ pub record CommandView : Type 0 where
 -- The meaning of a command.
 abbrev pub meaning : Command → CommandView
 meaning c = record { file = string_bytes c.file; seconds = c.seconds }
-
--- Whether a word starts with `-`. Such a word is not a file.
-abbrev pub begins_with_dash : List ℕ → Bool
-begins_with_dash [] = false
-begins_with_dash (byte ∷ _) = byte == 45
 
 -- The meaning of a file and a number of seconds.
 abbrev pub with_file : List ℕ → Option ℕ → Option CommandView

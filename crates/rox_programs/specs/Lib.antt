@@ -1,2 +1,3 @@
 pub mod ProgramError
 pub mod Output
+pub mod Words

@@ -1,4 +1,5 @@
-use Rattle.std.specs.Prelude.{ℕ, Bool, true, false, List, [], ◌∷◌, ◌==◌, Option, Some, None, codes, string_bytes, bytes_eq, if◌then◌else◌, option_map}
+use Rattle.std.specs.Prelude.{ℕ, Bool, true, false, List, [], ◌∷◌, Option, Some, None, codes, string_bytes, bytes_eq, if◌then◌else◌, option_map}
+use Rattle.rox_programs.specs.Words.{begins_with_dash}
 use Rattle.xmltree.specs.declared.options.Command.{Command}
 
 -- What is asked for: whether a document type declaration is allowed, the path, if there is one, and the file, or `None` for
@@ -11,11 +12,6 @@ pub record CommandView : Type 0 where
 -- The meaning of a command.
 abbrev pub meaning : Command → CommandView
 meaning c = record { allow_dtd = c.allow_dtd; path = option_map string_bytes c.path; file = option_map string_bytes c.file }
-
--- Whether a word starts with `-`. Such a word is not a file.
-abbrev pub begins_with_dash : List ℕ → Bool
-begins_with_dash [] = false
-begins_with_dash (byte ∷ _) = byte == 45
 
 -- The last words are one file, or there are none. Other words are wrong.
 abbrev pub command_with : Bool → Option (List ℕ) → List (List ℕ) → Option CommandView
