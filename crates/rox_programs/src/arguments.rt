@@ -11,6 +11,7 @@ use crate::program_error::ProgramError;
 use std::alloc::Global;
 use std::env::Args;
 use std::io;
+use std::io::Write;
 
 /// Returns the words after the program's name, or `None` if an argument is not UTF-8. `given` is what `env::args` returned. Fails
 /// with `OutOfMemory` if memory ran out there or runs out here, and with no other error.
@@ -25,4 +26,12 @@ pub fn words(alloc: Global, given: io::Result<Args>) -> Result<Option<Vec<String
         Err(error) if error.kind() == io::ErrorKind::OutOfMemory => Err(ProgramError::OutOfMemory),
         Err(_) => Ok(None),
     }
+}
+
+/// Prints the usage of a program, and returns the status of wrong arguments. A fault of `err` is passed over.
+pub fn refuse<E: Write>(err: &mut E, usage: &str) -> u8
+    ensures { result ≡ 2 }
+{
+    let _ = writeln!(err, "{usage}");
+    2
 }

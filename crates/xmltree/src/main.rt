@@ -11,7 +11,7 @@ mod run;
 
 use crate::arguments::{USAGE, command};
 use crate::options::Command;
-use rox_programs::arguments::words;
+use rox_programs::arguments::{refuse, words};
 use rox_programs::program_error::ProgramError;
 use std::env;
 use std::fs::File;
@@ -21,7 +21,7 @@ use std::process::ExitCode;
 fn main(rt: HostRuntime) -> ExitCode {
     let status = match asked_for(&rt) {
         Ok(Some(command)) => run_with_files(&rt, &command),
-        Ok(None) => refuse(&rt),
+        Ok(None) => refuse(&mut rt.stderr(), USAGE),
         Err(fault) => {
             let _ = writeln!(rt.stderr(), "error: {fault}");
             fault.status()
@@ -36,11 +36,6 @@ fn asked_for(rt: &HostRuntime) -> Result<Option<Command>, ProgramError> {
         Some(words) => Ok(command(rt.alloc(), &words)?),
         None => Ok(None),
     }
-}
-
-fn refuse(rt: &HostRuntime) -> u8 {
-    let _ = writeln!(rt.stderr(), "{USAGE}");
-    2
 }
 
 fn run_with_files(rt: &HostRuntime, command: &Command) -> u8 {
