@@ -1,7 +1,9 @@
 -- Records.
-use Rattle.std.specs.Prelude.{ℕ, Bool, ◌||◌, List, ◌++◌, Option, Some, string_bytes, codes, decimal, is_none}
+use Rattle.std.specs.Prelude.{ℕ, Bool, ◌||◌, List, ◌++◌, Option, Some, string_bytes, codes, decimal, is_none, option_map, find}
 use Rattle.roxmltree.specs.DocumentView.{DocumentView}
-use Rattle.rox_uses.specs.Nodes.{value_at}
+use Rattle.roxmltree.specs.NodeParts.{start_of}
+use Rattle.roxmltree.specs.NodeRef.{node_refs}
+use Rattle.rox_uses.specs.Nodes.{item_at, value_at}
 use Rattle.rox_uses.specs.declared.records.Record.{Record}
 use Rattle.rox_uses.specs.declared.records.RecordsError.{RecordsError}
 use Rattle.rox_uses.specs.declared.records.RecordsError.TheVariants as error
@@ -17,6 +19,10 @@ written record' = (Some (string_bytes record'.name), Some (string_bytes record'.
 -- Whether the name or the value is missing.
 abbrev pub is_incomplete : DocumentView × ℕ → Bool
 is_incomplete row = is_none (value_at (codes "name") row) || is_none (value_at (codes "value") row)
+
+-- Where the first incomplete row among the nodes of these ids starts, or `None` if none is incomplete.
+abbrev pub first_incomplete : DocumentView → List ℕ → Option ℕ
+first_incomplete document ids = option_map (λ row. start_of (item_at row)) (find is_incomplete (node_refs document ids))
 
 -- The text that an error prints.
 abbrev pub message : RecordsError → List ℕ

@@ -15,13 +15,13 @@
 //! assert!(rt; error == Some(QueryError::Path(PathError::BadPath(6))));
 //! ```
 
-ghost use Rattle.std.specs.Prelude.{◌≡◌, ℕ, List, map, IfOk, Err};
+ghost use Rattle.std.specs.Prelude.{◌≡◌, ℕ, List, map, IfOk, Err, Some};
 ghost use Rattle.roxmltree.specs.NodeRef.{node_refs};
 ghost use Rattle.rox_path.specs.Steps.{PathStep};
 ghost use Rattle.rox_path.specs.Paths.{IsPath, IsBadAt};
 ghost use Rattle.rox_path.specs.Match.{Selects};
 ghost use Rattle.rox_path.specs.declared.parse.PathError.TheVariants.{BadPath};
-ghost use Rattle.rox_uses.specs.Records.{said, written};
+ghost use Rattle.rox_uses.specs.Records.{said, written, first_incomplete};
 
 use crate::records::{Record, RecordsError, read_record};
 use rox_path::{PathError, parse_path, select};
@@ -80,6 +80,7 @@ impl<T: Drop> From<AllocFailed<T>> for QueryError {
 }
 
 /// Returns the records of the elements that a path reaches from the root node, in document order: the `name` and `value` of each.
+/// Fails with the start of the first that is incomplete.
 pub fn records_at(
     alloc: Global,
     document: &Document<'_>,
@@ -89,6 +90,9 @@ pub fn records_at(
         × IsPath path.now 0 steps × Selects document.now.tree 0 steps ids
         × (map written records.items ≡ map said (node_refs document.now ids))) }
     ensures bad_path { (k : ℕ) → result ≡ Err (QueryError.Path (BadPath k)) → IsBadAt path.now k }
+    ensures bad_row { (start : ℕ) → result ≡ Err (QueryError.Row (RecordsError.Incomplete start))
+        → (steps : List PathStep) × (ids : List ℕ) × IsPath path.now 0 steps
+        × Selects document.now.tree 0 steps ids × (first_incomplete document.now ids ≡ Some start) }
 {
     let steps = parse_path(alloc, path)?;
     let rows = select(alloc, document.root(), &steps)?;
