@@ -1,6 +1,6 @@
 //! The tables as they grow, and the open elements.
 
-ghost use Rattle.std.specs.Prelude.{◌<◌, ◌≤◌, ◌+◌, ◌++◌, ◌^◌, ◌≡◌, ◌∷◌, [], ℕ, length, drop, vec_len, max, IfOk, IfSome, OnOk};
+ghost use Rattle.std.specs.Prelude.{◌<◌, ◌≤◌, ◌+◌, ◌++◌, ◌^◌, ◌≡◌, ◌∷◌, [], ℕ, length, drop, vec_len, max, IfNone, IfOk, IfSome, OnOk};
 ghost use Rattle.rox_rows.specs.declared.row.NodeData.{NodeData};
 ghost use Rattle.rox_rows.specs.Rows.{node_rows, attribute_rows};
 ghost use Rattle.rox_scopes.specs.declared.stored_scope.Scope.TheVariants as scope;
@@ -55,7 +55,7 @@ pub struct Builder<'input> {
 pub const ROOM_TO_OPEN: usize = 20;
 
 /// The number of scopes for which there is room before their table grows: most texts have few.
-pub const ROOM_FOR_SCOPES: usize = 4;
+const ROOM_FOR_SCOPES: usize = 4;
 
 /// Returns a table with the scope of the root node, which lists nothing.
 pub fn empty_scope(alloc: Global) -> Result<Vec<Scope>, AllocError>
@@ -198,8 +198,9 @@ impl<'input> Builder<'input> {
     /// Returns the innermost open element, if one is open.
     #[inline(always)]
     pub fn innermost(&self) -> Option<OpenElement<'input>>
-        ensures { IfSome result (λ o. (outer : List OpenElement)
+        ensures some { IfSome result (λ o. (outer : List OpenElement)
             × (self.entry.now.opened.items ≡ outer ++ o ∷ [])) }
+        ensures none { IfNone result (self.now.opened.items ≡ []) }
     {
         match self.opened.last() {
             Some(element) => Some(*element),

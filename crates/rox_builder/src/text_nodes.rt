@@ -104,10 +104,7 @@ impl<'input> Builder<'input> {
                 self.pending = Pending::None;
                 Ok(())
             }
-            Pending::Joined => {
-                self.flush_joined()?;
-                Ok(())
-            }
+            Pending::Joined => self.flush_joined(),
         }
     }
 

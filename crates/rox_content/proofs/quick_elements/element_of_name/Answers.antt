@@ -24,7 +24,7 @@ returns c = record {
   value = λ _ context end s _ h.
       let b = c.args.builder.now in
       let old = b.tables in
-      let split = c.in-Some.ensures in
+      let split = c.in-Some.ensures.some in
       let o = c.in-Some.parent in
       let x = c.in-Some-start_tag_of_name.ensures.read in
       let t = c.in-Some-start_tag_of_name.bare.tag in
@@ -64,7 +64,7 @@ put_open-requires c =
     let named = tag_is_named context fault.NoRootNode _ _ _ c.args.cursor.now.text.now c.args.cursor.now.pos 0 _ _ t c.args.cursor.now.utf8 c.requires.here (x.read context fault.NoRootNode 0) x.tagged.name x.tagged.name_end x.starts in
     record {
       row =
-          let split = c.in-Some.ensures in
+          let split = c.in-Some.ensures.some in
           record {
             ready = c.requires.room.ready;
             parent = sym (innermost_row c.args.builder.now.tables c.args.builder.now.opened.items split.0 c.in-Some.parent split.1);
