@@ -1,6 +1,6 @@
 //! The declarations of a start tag, one by one (XML 1.0 section 3.1, Namespaces in XML 1.0 section 3).
 
-ghost use Rattle.std.specs.Prelude.{◌≡◌, ◌<◌, ◌+◌, ◌-◌, ◌^◌, map, true, Ok, Err, IfOk};
+ghost use Rattle.std.specs.Prelude.{◌≡◌, ◌<◌, ◌+◌, ◌-◌, ◌^◌, map, true, false, Ok, Err, IfOk};
 ghost use Rattle.rox_grammar.specs.Written.{Attribute, Name, is_namespace_decl};
 ghost use Rattle.rox_grammar.specs.NameParts.{local_span, prefix_span};
 ghost use Rattle.rox_grammar.specs.Tree.{is_declared};
@@ -17,7 +17,7 @@ use rox_grammar::fault::{Fault, Span};
 use rox_grammar::name::QName;
 use rox_growth::growth::push_with_room;
 use rox_scopes::namespace::Namespace;
-use rox_scopes::namespace_table::{FIRST_ROOM, Key, NamespaceTable};
+use rox_scopes::namespace_table::{FIRST_ROOM, NamespaceTable};
 use rox_scopes::prefix_set::{FEW, add_prefix};
 use rox_scopes::scope::{XML_URI, XMLNS_URI, is_own, is_xml, same_prefix};
 use std::alloc::AllocError;
@@ -184,8 +184,10 @@ pub fn declare_new<'input>(
     listed: &mut Vec<u16>,
     taken: UnresolvedAttribute<'input>,
 ) -> Result<bool, AllocError>
-    ensures { IfOk result (λ new. new ≡ true → DeclaresNew namespaces.old.items.items
+    ensures declared { IfOk result (λ new. new ≡ true → DeclaresNew namespaces.old.items.items
         listed.old.items namespaces.new.items.items listed.new.items taken.entry) }
+    ensures none { IfOk result (λ new. new ≡ false → (namespaces.new ≡ namespaces.old)
+        × (listed.new ≡ listed.old)) }
 {
     if taken.test_uri().is_err() {
         return Ok(false);

@@ -44,7 +44,7 @@ const MOST: usize = 128;
 /// Returns the namespace of an attribute's name in this scope. A name without a prefix has none, and the prefix `xml` has its
 /// own. Returns `None` if the prefix is not known.
 #[inline(always)]
-pub fn attribute_namespace(
+fn attribute_namespace(
     namespaces: &[Namespace<'_>],
     few: Option<&[u16]>,
     present: &PrefixBindings<'_>,

@@ -18,8 +18,8 @@ use Rattle.rox_names.proofs.namespace_decl.declare_new.Goals as goal
 pub add_new-requires : goal.add_new-requires
 add_new-requires c = grind (arith, absent_row)
 
-pub returns : goal.returns
-returns c = λ _ keys has.
+pub returns-clause-declared : goal.returns-clause-declared
+returns-clause-declared c = λ _ keys has.
     let old = c.args.namespaces.now.items.items in
     let rows = c.add_new.new.self.items.items in
     let listed = c.args.listed.now.items in
