@@ -1,6 +1,6 @@
 //! The table of attributes.
 
-ghost use Rattle.std.specs.Prelude.{◌≡◌, ◌<◌, ◌≤◌, ◌+◌, ◌-◌, ◌/◌, ◌∷◌, [], true, false, length, take, vec_len, vec_capacity, if◌then◌else◌, is_ok};
+ghost use Rattle.std.specs.Prelude.{◌≡◌, ◌<◌, ◌≤◌, ◌+◌, ◌-◌, ◌∷◌, [], true, false, length, take, vec_len, vec_capacity, is_ok};
 ghost use Rattle.rox_rows.specs.StoredAttributes.{AreNumbered, AreNumbered-prop, TakesBack, explicit_count, own_place, owned_places};
 ghost use Rattle.std.proofs.Props.{props};
 ghost use Rattle.rox_rows.specs.Puts.{Puts};
@@ -207,7 +207,7 @@ impl<'input> AttributeTable<'input> {
     /// Appends an attribute of any offsets. Returns false, with the table unchanged, if there is no room for it or for them, or
     /// if memory is refused.
     #[inline(always)]
-    pub fn put_explicit(&mut self, item: AttributeData<'input>, places: AttributePlaces) -> bool
+    fn put_explicit(&mut self, item: AttributeData<'input>, places: AttributePlaces) -> bool
         ensures { Puts ((item.entry, places) ∷ []) result (attribute_rows self.old)
             (attribute_rows self.new) }
     {

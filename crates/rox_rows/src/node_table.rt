@@ -10,7 +10,7 @@ ghost use Rattle.rox_rows.specs.declared.row.NodeKind.TheVariants as kind;
 ghost use Rattle.rox_rows.specs.declared.stored_node.StoredNode.{StoredNode};
 ghost use Rattle.rox_rows.specs.declared.stored_node.HighPlaces.{HighPlaces};
 
-use crate::row::{NodeData, NodeKind, PI};
+use crate::row::{NodeData, PI};
 use crate::stored_node::{
     FIRST_HIGH, HighPlaces, KindRef, RowRef, StoredKind, StoredNode, high_half, kind_ref, low_half,
     owns_text, put_kind, small_kind, store_kind, whole_place,
@@ -220,7 +220,7 @@ impl<'input> NodeTable<'input> {
     /// Returns how many more rows there is room for.
     #[inline(always)]
     pub fn room(&self) -> usize
-        ensures { vec_len self.now.rows + result ≤ vec_capacity self.now.rows }
+        ensures { vec_len self.now.rows + result ≡ vec_capacity self.now.rows }
     {
         self.rows.capacity() - self.rows.len()
     }
