@@ -36,10 +36,12 @@ pub record IsEmptyWith {A : Type 0} (most : ℕ) (table : Vec A Global) : Type 0
   pub room : vec_capacity table ≤ most
   pub small : most ≤ 204 → vec_capacity table ≡ 0
 
--- An empty table with room for at least `asked` or `fewer` rows, whichever is less.
+-- An empty table with room for at least `asked` or `fewer` rows, whichever is less. If `asked` is at most 204, there is room for
+-- `asked`.
 pub record HasFirstRoom {A : Type 0} (asked fewer : ℕ) (table : Vec A Global) : Type 0 where
   pub items : table.items ≡ []
   pub room : min asked fewer ≤ vec_capacity table
+  pub small : asked ≤ 204 → asked ≤ vec_capacity table
 
 -- The rows stay, and there is room for an eighth more unless memory ran out. There is the room `foreseen` if that is at most 204.
 pub record MakesRoom {A E : Type 0} (place end : ℕ) (old new : Vec A Global) (result : Result (Unit {0}) E) : Type 0 where
