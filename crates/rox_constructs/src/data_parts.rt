@@ -34,13 +34,12 @@ fn part<'input>(
         result }
 {
     buffers.scratch.clear();
+    if context.main {
+        return data_part(cursor, stop, context, &mut buffers.scratch);
+    }
     buffers.raw.clear();
     let next = data_part(cursor, stop, context, &mut buffers.raw)?;
-    if context.main {
-        buffers.scratch.push_str(buffers.raw.as_str())?;
-    } else {
-        line_feeds(buffers.raw.as_str(), &mut buffers.scratch)?;
-    }
+    line_feeds(buffers.raw.as_str(), &mut buffers.scratch)?;
     Ok(next)
 }
 
