@@ -46,7 +46,7 @@ const ROOM_OF_A_TAG: usize = 11;
 
 /// Returns the storage of a text: borrowed if it is a slice of the source, otherwise a copy of `scratch`.
 #[inline]
-pub fn stored<'input>(
+fn stored<'input>(
     alloc: Global,
     piece: TextValue<'input>,
     scratch: &str,
@@ -55,10 +55,7 @@ pub fn stored<'input>(
 {
     match piece {
         TextValue::Plain(text) => Ok(StringStorage::Borrowed(text)),
-        TextValue::Changed => {
-            let text = StringStorage::new_owned(alloc, scratch)?;
-            Ok(text)
-        }
+        TextValue::Changed => StringStorage::new_owned(alloc, scratch),
     }
 }
 

@@ -66,9 +66,9 @@ fn empty_end(text: &str, at: usize) -> Option<TagEnd>
 
 /// The item after white space: its offset, and whether it may be an attribute.
 #[derive(Clone, Copy)]
-pub struct NextItem {
-    pub at: usize,
-    pub may_begin: bool,
+struct NextItem {
+    at: usize,
+    may_begin: bool,
 }
 
 /// Returns the item after the white space that starts at `at`, before the last byte. A name starts with no byte up to `>`.

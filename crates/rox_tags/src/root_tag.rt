@@ -95,10 +95,10 @@ fn begin_scopes(elements: &mut ElementTables<'_>) -> Result<(), AllocError>
     elements.listed.clear();
     elements.scopes.clear();
     elements.present = PrefixBindings::new(alloc);
-    elements
-        .scopes
-        .push(Scope::Few(Stretch { from: 0, until: 0 }))?;
-    Ok(())
+    push(
+        &mut elements.scopes,
+        Scope::Few(Stretch { from: 0, until: 0 }),
+    )
 }
 
 /// Reads the start tag of a root element, from its `<`, if nothing is declared yet and it is plain. If it returns `Ok(None)`, the
