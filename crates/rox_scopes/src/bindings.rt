@@ -1,7 +1,7 @@
 //! The binding of each prefix for a scope that lists many namespaces. It is a map for the innermost scope, with what was replaced
 //! in it: the bindings of the scopes around. These are restored when one of those scopes is asked for.
 
-ghost use Rattle.std.specs.Prelude.{◌≡◌, ◌<◌, ◌-◌, List, Option, Some, None, true, length, map, reverse, slice_range, OnOk, if◌then◌else◌, [], ◌≤◌};
+ghost use Rattle.std.specs.Prelude.{◌≡◌, ◌<◌, ◌-◌, List, Option, Some, None, true, length, map, reverse, slice_range, OnOk, [], ◌≤◌};
 ghost use Rattle.rox_grammar.specs.Written.{NamespaceDecl};
 ghost use Rattle.rox_grammar.specs.AtIndex.{scope_at};
 ghost use Rattle.rox_scopes.specs.ScopeRows.{lists_of};

@@ -1,6 +1,6 @@
 //! A filter for the local names of a tag's attributes: it spares most of them a comparison with those before.
 
-ghost use Rattle.std.specs.Prelude.{◌≡◌, ◌+◌, ◌-◌, ◌^◌, ◌<◌, ◌≤◌, min, nat_lt, length, List, replicate, None, bytes_eq, false};
+ghost use Rattle.std.specs.Prelude.{◌≡◌, ◌+◌, ◌-◌, ◌^◌, ◌<◌, ◌≤◌, min, nat_lt, length, replicate, None, bytes_eq, false};
 ghost use Rattle.rox_rows.specs.Rows.{attribute_rows};
 ghost use Rattle.rox_seen.specs.SeenNames.{most_again, name_sum, AreSeen, PutsCode, SeesAll, TellsSeen, name_code};
 
