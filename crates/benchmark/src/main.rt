@@ -7,7 +7,7 @@ ghost use Rattle.rox_measures.specs.Fault.{status_of};
 use rox_measures::arguments::{Command, USAGE, read};
 use rox_measures::fault::Fault;
 use rox_measures::run;
-use rox_programs::arguments::words;
+use rox_programs::arguments::{refuse, words};
 use std::env;
 use std::io::Write;
 use std::process::ExitCode;
@@ -15,10 +15,7 @@ use std::process::ExitCode;
 fn main(rt: HostRuntime) -> ExitCode {
     let status = match asked_for(&rt) {
         Ok(Some(command)) => measure(&rt, &command),
-        Ok(None) => {
-            let _ = writeln!(rt.stderr(), "{USAGE}");
-            2
-        }
+        Ok(None) => refuse(&mut rt.stderr(), USAGE),
         Err(fault) => tell(&rt, &fault),
     };
     ExitCode::from(status)

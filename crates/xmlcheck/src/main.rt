@@ -60,6 +60,11 @@ fn check_words(rt: &HostRuntime, words: &[String]) -> io::Result<u8> {
     if files.is_empty() {
         return eprintln!(rt; "{HELP}").map(|_| 2);
     }
+    check_each(rt, &files, options)
+}
+
+/// Checks files in order, and returns the highest of their statuses.
+fn check_each(rt: &HostRuntime, files: &[&str], options: ParsingOptions) -> io::Result<u8> {
     let mut highest = 0;
     for file in files {
         highest = highest.max(check_file(rt, file, options)?);

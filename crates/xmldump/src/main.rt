@@ -16,7 +16,7 @@ use crate::sources::Sources;
 use rox_dump::answers::Answer;
 use rox_dump::arguments::{USAGE, command};
 use rox_dump::options::{AnswerWord, Command};
-use rox_programs::arguments::words;
+use rox_programs::arguments::{refuse, words};
 use rox_programs::program_error::ProgramError;
 use std::env;
 use std::fs::File;
@@ -37,17 +37,12 @@ fn main(rt: HostRuntime) -> ExitCode {
 // An argument that is not UTF-8 is wrong.
 fn run_words(rt: &HostRuntime) -> Result<u8, ProgramError> {
     let Some(words) = words(rt.alloc(), env::args(rt))? else {
-        return Ok(refuse(rt));
+        return Ok(refuse(&mut rt.stderr(), USAGE));
     };
     match command(rt.alloc(), &words)? {
         Some(command) => run_with_files(rt, &command),
-        None => Ok(refuse(rt)),
+        None => Ok(refuse(&mut rt.stderr(), USAGE)),
     }
-}
-
-fn refuse(rt: &HostRuntime) -> u8 {
-    let _ = writeln!(rt.stderr(), "{USAGE}");
-    2
 }
 
 // The files of the resolver's answers and of the main text are read before the input.

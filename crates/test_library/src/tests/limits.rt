@@ -53,11 +53,17 @@ fn numbered(alloc: Global, count: u32) -> Result<String, AllocError> {
         write!(text, "<!ENTITY e{number} '{number},'>")?;
     }
     text.push_str("]><r>")?;
+    push_references(&mut text, count)?;
+    text.push_str("</r>")?;
+    Ok(text)
+}
+
+/// Adds a reference to each of so many numbered entities, from the last on.
+fn push_references(text: &mut String, count: u32) -> Result<(), AllocError> {
     for number in (0..count).rev() {
         write!(text, "&e{number};")?;
     }
-    text.push_str("</r>")?;
-    Ok(text)
+    Ok(())
 }
 
 /// Returns the numbers below `count`, the greatest first, each with a comma after it.
