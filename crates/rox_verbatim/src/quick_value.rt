@@ -1,6 +1,6 @@
 //! Attribute values by the fast path: where a value starts, and where one ends that needs no replacement (XML 1.0 [10]).
 
-ghost use Rattle.std.specs.Prelude.{◌≡◌, ◌<◌, ◌≤◌, ◌+◌, ◌-◌, ◌==◌, ◌||◌, IfSome, length, slice_range, true, IsCharBoundary, slice_index};
+ghost use Rattle.std.specs.Prelude.{◌≡◌, ◌<◌, ◌≤◌, ◌+◌, ◌-◌, ◌==◌, ◌||◌, ℕ, IfSome, length, slice_range, true, IsCharBoundary, slice_index};
 ghost use Rattle.rox_verbatim.specs.PlainValues.{BeginsValue, EndsVerbatim, HasPlainValue, IsQuoteAt, IsQuoteBehindEquals, IsValueStart, SeesValue};
 ghost use Rattle.rox_bytes.specs.Windows.{SeesQuote};
 
@@ -143,20 +143,21 @@ pub fn quote_before(text: &str, start: usize) -> u8
 #[inline(always)]
 pub fn quote_after_equals(text: &str, at: usize) -> u8
     requires { at ≤ length text.now }
-    ensures { 0 < result → IsQuoteBehindEquals text.now at result }
+    ensures found { 0 < result → IsQuoteBehindEquals text.now at result }
+    ensures none { result ≡ 0 → (q : ℕ) → IsQuoteBehindEquals text.now at q → ⊥ }
 {
-    let bytes = text.as_bytes();
-    if at + 1 >= bytes.len() || bytes[at] != b'=' {
+    if at + 1 >= text.len() {
         return 0;
     }
-    quote_here(text, at + 1)
+    quote_in_text(text, at)
 }
 
 /// Like `quote_after_equals`, but both bytes are in the text.
 #[inline(always)]
 pub fn quote_in_text(text: &str, at: usize) -> u8
     requires { at + 1 < length text.now }
-    ensures { 0 < result → IsQuoteBehindEquals text.now at result }
+    ensures found { 0 < result → IsQuoteBehindEquals text.now at result }
+    ensures none { result ≡ 0 → (q : ℕ) → IsQuoteBehindEquals text.now at q → ⊥ }
 {
     let bytes = text.as_bytes();
     let quote = bytes[at + 1];

@@ -8,7 +8,7 @@ prefixed_name-requires c =
 
 pub name_without_prefix-requires : goal.name_without_prefix-requires
 name_without_prefix-requires c =
-    first_part c.args.text.now c.args.start 61 c.utf8.text c.requires (c.quote_after_equals.ensures (omega arith)).equals (omega arith) equals_stops
+    first_part c.args.text.now c.args.start 61 c.utf8.text c.requires (c.quote_after_equals.ensures.found (omega arith)).equals (omega arith) equals_stops
 
 pub returns : goal.returns
 returns c = grind (arith, first_part, equals_stops, declares_whole)
