@@ -24,6 +24,10 @@ pub record LooksAhead (ends : ℕ → Bool) (changes : ℕ → Bool) (src : List
   pub looked : IsLookahead ends changes src i j verbatim
   pub stops : j < length src → ends j ≡ false → begins is_char src j ≡ false
 
+-- What is valid up to `j`, from any start, is valid up to `k` too, with the same `verbatim`.
+abbrev pub GoesOn : (ends : ℕ → Bool) (changes : ℕ → Bool) → List ℕ → (j k : ℕ) → Bool → Type 0
+GoesOn ends changes src j k verbatim = (i : ℕ) → IsCharBoundary src i → IsLookahead ends changes src i j verbatim → IsLookahead ends changes src i k verbatim
+
 -- The bytes from `i` up to `j` are Chars, of which only the first may be ASCII.
 pub record IsStep (src : List ℕ) (i j : ℕ) : Type 0 where
   pub onward : i ≤ j
@@ -39,10 +43,6 @@ ends_value quote src k = (slice_index src k == quote) || (slice_index src k == 6
 unfoldable pub is_changed_value_byte : ℕ → Bool
 is_changed_value_byte b = is_any_value_byte b || is_special b
 
--- What is looked at up to `j` is valid up to `k` too, where it is as before whether it is changed.
-abbrev pub GoesOnInValue : ℕ → List ℕ → ℕ → ℕ → Bool → Type 0
-GoesOnInValue quote src j k verbatim = (i : ℕ) → IsCharBoundary src i → IsLookahead (ends_value quote src) is_special src i j verbatim → IsLookahead (ends_value quote src) is_special src i k verbatim
-
 -- Whether character data ends at the offset: a `<` or a `]]>` is there.
 abbrev pub ends_run : List ℕ → ℕ → Bool
 ends_run src k = (slice_index src k == 60) || stands (word_text word.CDataEnd) src k
@@ -54,10 +54,6 @@ changes_run b = (b == 38) || (b == 13)
 -- The byte `b` is a text byte, or changes character data.
 unfoldable pub is_changed_text_byte : ℕ → Bool
 is_changed_text_byte b = is_text_byte b || changes_run b
-
--- As in `GoesOnInValue`, in character data.
-abbrev pub GoesOnLooking : List ℕ → ℕ → ℕ → Bool → Type 0
-GoesOnLooking src j k verbatim = (i : ℕ) → IsCharBoundary src i → IsLookahead (ends_run src) changes_run src i j verbatim → IsLookahead (ends_run src) changes_run src i k verbatim
 
 -- Character data from `i` up to `j` is valid and needs no replacement, and `<` is at `j`.
 pub record EndsRun (src : List ℕ) (i j : ℕ) : Type 0 where

@@ -5,7 +5,7 @@ ghost use Rattle.std.specs.Prelude.{◌≡◌, ◌==◌, ◌||◌, ◌&&◌, ◌
 ghost use Rattle.rox_grammar.specs.Content as content;
 ghost use Rattle.rox_bytes.specs.ByteSets as near;
 ghost use Rattle.rox_scan.specs.Lookahead as longer;
-ghost use Rattle.rox_scan.specs.Lookahead.{EndsLine, EndsRun, GoesOnLooking, IsChangedRun, IsLineRun, IsLookahead, IsStep, LooksAhead};
+ghost use Rattle.rox_scan.specs.Lookahead.{EndsLine, EndsRun, GoesOn, IsChangedRun, IsLineRun, IsLookahead, IsStep, LooksAhead};
 ghost use Rattle.rox_scan.specs.Views.{ReadsRun};
 ghost use Rattle.rox_bytes.specs.ScanResults.{HasCharAt};
 ghost use Rattle.rox_bytes.specs.ByteSets.{StopsSet, is_text_byte};
@@ -163,7 +163,7 @@ fn changes_run(byte: u8) -> bool
 #[inline(always)]
 fn stretch_end(text: &str, at: usize, is_verbatim: bool) -> usize
     requires { IsCharBoundary text.now at }
-    ensures looked { GoesOnLooking text.entry.now at result is_verbatim }
+    ensures looked { GoesOn (longer.ends_run text.entry.now) longer.changes_run text.entry.now at result is_verbatim }
     ensures onward { at ≤ result }
 {
     if is_verbatim {

@@ -10,7 +10,7 @@ ghost use Rattle.rox_reading.specs.Values as reading;
 ghost use Rattle.rox_bytes.specs.ByteSets as near;
 ghost use Rattle.rox_scan.specs.CursorSteps.{ReadsChars};
 ghost use Rattle.rox_scan.specs.Lookahead as longer;
-ghost use Rattle.rox_scan.specs.Lookahead.{EndsComment, GoesOnInValue, IsLookahead, LooksAhead, IsStep};
+ghost use Rattle.rox_scan.specs.Lookahead.{EndsComment, GoesOn, IsLookahead, LooksAhead, IsStep};
 ghost use Rattle.rox_bytes.specs.ScanResults.{Finds, HasCharAt};
 
 use crate::cursor::{Cursor, Quote};
@@ -193,7 +193,7 @@ impl ByteSet for ChangedValueByte {
 #[inline(always)]
 fn value_stretch_end(text: &str, at: usize, quote: Quote, is_verbatim: bool) -> usize
     requires { IsCharBoundary text.now at }
-    ensures looked { GoesOnInValue quote.byte text.entry.now at result is_verbatim }
+    ensures looked { GoesOn (longer.ends_value quote.byte text.entry.now) reading.is_special text.entry.now at result is_verbatim }
     ensures onward { at ≤ result }
 {
     if is_verbatim {
