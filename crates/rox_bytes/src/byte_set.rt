@@ -309,40 +309,6 @@ fn eased_at(bytes: &[u8], at: usize) -> u8x16
     leads.select(u8x16::splat(255), block)
 }
 
-/// Like `bytes_end_beyond`, but each 239 that 191 does not follow is passed too. A 239 among the last bytes is not.
-#[inline(never)]
-fn eased_end<C: ByteSet>(bytes: &[u8], at: usize) -> usize
-    requires { at ≤ length bytes.now }
-    ensures { EndsEased C.test bytes.now at result }
-{
-    let mut block = at;
-    while block + 17 <= bytes.len() {
-        let others = C::others(eased_at(bytes, block));
-        if others != 0 {
-            let count = before_first(others);
-            return block + count;
-        }
-        block += 16;
-    }
-    short_end::<C>(bytes, block)
-}
-
-/// Like `short_end`, but sixteen bytes at a time. Most runs end among the first sixteen bytes, which are tested in line.
-#[inline(always)]
-fn bytes_end<C: ByteSet>(bytes: &[u8], at: usize) -> usize
-    requires { at ≤ length bytes.now }
-    ensures { EndsSet C.test bytes.now at result }
-{
-    if bytes.len() - at < 16 {
-        return short_end::<C>(bytes, at);
-    }
-    let others = others_at::<C>(bytes, at);
-    if others != 0 {
-        return at + before_first(others);
-    }
-    bytes_end_beyond::<C>(bytes, at + 16)
-}
-
 /// The end of a run of bytes of a set, where another byte is. If `others` is not 0, it has a bit for each of the sixteen bytes from
 /// the start of the run on that is not in the set, the lowest for the first.
 #[derive(Clone, Copy)]
@@ -363,12 +329,14 @@ fn some_end(bytes: &[u8], at: usize) -> Option<RunEnd>
     Some(RunEnd { at, others: 0 })
 }
 
-/// Returns the end of the bytes of the set from `at` on, if a byte is there. Most are among the first sixteen.
+/// Returns the end of the bytes of the set in a text from `at` on, if a byte is there. The caller can read that byte without
+/// another test. Most ends are among the first sixteen bytes.
 #[inline(always)]
-fn run_in<C: ByteSet>(bytes: &[u8], at: usize) -> Option<RunEnd>
-    requires { at ≤ length bytes.now }
-    ensures { IfSome result (EndsRun C.test bytes.entry.now at) }
+pub fn find_run<C: ByteSet>(text: &str, at: usize) -> Option<RunEnd>
+    requires { at ≤ length text.now }
+    ensures { IfSome result (EndsRun C.test text.entry.now at) }
 {
+    let bytes = text.as_bytes();
     if bytes.len() - at < 16 {
         let end = short_end::<C>(bytes, at);
         return some_end(bytes, end);
@@ -382,16 +350,6 @@ fn run_in<C: ByteSet>(bytes: &[u8], at: usize) -> Option<RunEnd>
     }
     let end = bytes_end_beyond::<C>(bytes, at + 16);
     some_end(bytes, end)
-}
-
-/// Returns the end of the bytes of the set in a text from `at` on, if a byte is there. The caller can read that byte without
-/// another test.
-#[inline(always)]
-pub fn find_run<C: ByteSet>(text: &str, at: usize) -> Option<RunEnd>
-    requires { at ≤ length text.now }
-    ensures { IfSome result (EndsRun C.test text.entry.now at) }
-{
-    run_in::<C>(text.as_bytes(), at)
 }
 
 /// Returns the offset of the first byte of a text from `at` on that is not in the set, if there is one. The caller can read that
@@ -419,23 +377,41 @@ pub fn skip_second<C: ByteSet>(text: &str, at: usize, run: RunEnd) -> usize
     at + before_first(rest)
 }
 
-/// Returns the end of the bytes of the set in a text from `at` on.
+/// Returns the end of the bytes of the set in a text from `at` on. Most ends are among the first sixteen bytes, tested in line.
 #[inline(always)]
 pub fn skip_set<C: ByteSet>(text: &str, at: usize) -> usize
     requires { at ≤ length text.now }
     ensures { EndsSet C.test text.now at result }
 {
-    bytes_end::<C>(text.as_bytes(), at)
+    let bytes = text.as_bytes();
+    if bytes.len() - at < 16 {
+        return short_end::<C>(bytes, at);
+    }
+    let others = others_at::<C>(bytes, at);
+    if others != 0 {
+        return at + before_first(others);
+    }
+    bytes_end_beyond::<C>(bytes, at + 16)
 }
 
 /// Like `skip_set`, but each 239 that 191 does not follow is passed too, unless it is among the last bytes. It is out of line, for
 /// texts that have such a byte: others are searched by `skip_set`.
-#[inline(always)]
+#[inline(never)]
 pub fn skip_eased<C: ByteSet>(text: &str, at: usize) -> usize
     requires { at ≤ length text.now }
     ensures { EndsEased C.test text.now at result }
 {
-    eased_end::<C>(text.as_bytes(), at)
+    let bytes = text.as_bytes();
+    let mut block = at;
+    while block + 17 <= bytes.len() {
+        let others = C::others(eased_at(bytes, block));
+        if others != 0 {
+            let count = before_first(others);
+            return block + count;
+        }
+        block += 16;
+    }
+    short_end::<C>(bytes, block)
 }
 
 /// Returns whether an ASCII byte is at `at`, or no byte is.

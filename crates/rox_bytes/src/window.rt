@@ -38,8 +38,10 @@ impl Window {
     /// Returns how many ASCII name-part bytes start the window: at least 16 if all do.
     #[inline(always)]
     pub fn part_count(&self) -> usize
-        ensures { (src : List ℕ) → Sees src self.now → result < 16
+        ensures few { (src : List ℕ) → Sees src self.now → result < 16
             → EndsSet is_part_byte src self.now.at (self.now.at + result) }
+        ensures all { (src : List ℕ) → Sees src self.now → 16 ≤ result
+            → AllPass is_part_byte src self.now.at (self.now.at + 16) }
     {
         before_first(self.parts)
     }

@@ -14,8 +14,8 @@ value_in_window-requires c =
     let window = c.new-window.ensures in
     let place = window.place in
     let few : c.part_count-count.result + 2 ≤ 16 = omega (arith, c.if-count-gt-MOST_NAME.false) in
-    let near = c.part_count-count.ensures src window.sees (omega (arith, few)) in
-    let seen = c.quote_in_text-quote.ensures (omega arith) in
+    let near = c.part_count-count.ensures.few src window.sees (omega (arith, few)) in
+    let seen = c.quote_in_text-quote.ensures.found (omega arith) in
     let first = quote_first src c.args.start n c.quote_in_text-quote.result (rw place at near) seen in
     record {
       seen = record {
