@@ -13,7 +13,8 @@ use Rattle.rox_reading.specs.Tags.{tag_at}
 use Rattle.rox_grammar.specs.State.{inside, scope_of, pairs_so_far, attributes_so_far}
 use Rattle.rox_reading.specs.State.{State}
 use Rattle.rox_reading.specs.Refusals.{lifted}
-use Rattle.rox_reading.specs.Machine.{Context, tag_step, cut_off_fault, opened_by, counted}
+use Rattle.rox_grammar.specs.Faults.{cut_off}
+use Rattle.rox_reading.specs.Machine.{Context, tag_step, opened_by, counted}
 use Rattle.rox_values.specs.Refusals.{IsRefusal}
 use Rattle.rox_values.specs.declared.parse_error.ParseError.{ParseError}
 use Rattle.rox_values.proofs.PartLemmas.{refuses_by}
@@ -134,22 +135,22 @@ attributes_by old new t above tag h =
 
 -- ---- one start tag, read and kept
 
-pub tag_fails : (context : Context) (src : List ℕ) (s : State) (i : ℕ) (cut : Fault) (above : List NamespaceDecl) (count : ℕ) (known : List NamespaceDecl) (e : ParseError) → i ≡ s.at → cut ≡ cut_off_fault context.values.main s.stack → above ≡ scope_of s.stack
+pub tag_fails : (context : Context) (src : List ℕ) (s : State) (i : ℕ) (cut : Fault) (above : List NamespaceDecl) (count : ℕ) (known : List NamespaceDecl) (e : ParseError) → i ≡ s.at → cut ≡ cut_off context.values.main s.stack → above ≡ scope_of s.stack
     → count ≡ attributes_so_far s.stack s.done → known ≡ distinct_pairs (pairs_so_far s.stack s.done) → IsRefusal e (tag_at context.values cut above count known src i s.openings_left) → IsRefusal e (tag_step context src s)
 unfolding tag_step
 tag_fails context src s i cut above count known e here c a n k h =
     refuses_by e (tag_at context.values cut above count known src i s.openings_left) (tag_step context src s)
     (λ r err.
-    let t : tag_at context.values (cut_off_fault context.values.main s.stack) (scope_of s.stack) (attributes_so_far s.stack s.done) (distinct_pairs (pairs_so_far s.stack s.done)) src s.at s.openings_left ≡ Err r = rw (← here, ← c, ← a, ← n, ← k) err in
+    let t : tag_at context.values (cut_off context.values.main s.stack) (scope_of s.stack) (attributes_so_far s.stack s.done) (distinct_pairs (pairs_so_far s.stack s.done)) src s.at s.openings_left ≡ Err r = rw (← here, ← c, ← a, ← n, ← k) err in
     rw t refl)
     h
 
-pub tag_is : (context : Context) (src : List ℕ) (s : State) (i : ℕ) (cut : Fault) (above : List NamespaceDecl) (count : ℕ) (known : List NamespaceDecl) (tag : Tag) (empty : Bool) (openings_left j : ℕ) → i ≡ s.at → cut ≡ cut_off_fault context.values.main s.stack
+pub tag_is : (context : Context) (src : List ℕ) (s : State) (i : ℕ) (cut : Fault) (above : List NamespaceDecl) (count : ℕ) (known : List NamespaceDecl) (tag : Tag) (empty : Bool) (openings_left j : ℕ) → i ≡ s.at → cut ≡ cut_off context.values.main s.stack
     → above ≡ scope_of s.stack → count ≡ attributes_so_far s.stack s.done → known ≡ distinct_pairs (pairs_so_far s.stack s.done)
     → tag_at context.values cut above count known src i s.openings_left ≡ Ok (record { tag = tag; empty = empty; openings_left = openings_left }, j) → tag_step context src s ≡ lifted (opened_by context.limit s tag empty openings_left j)
 unfolding tag_step
 tag_is context src s i cut above count known tag empty openings_left j here c a n k h =
-    let t : tag_at context.values (cut_off_fault context.values.main s.stack) (scope_of s.stack) (attributes_so_far s.stack s.done) (distinct_pairs (pairs_so_far s.stack s.done)) src s.at s.openings_left ≡ Ok (record { tag = tag; empty = empty; openings_left = openings_left }, j) =
+    let t : tag_at context.values (cut_off context.values.main s.stack) (scope_of s.stack) (attributes_so_far s.stack s.done) (distinct_pairs (pairs_so_far s.stack s.done)) src s.at s.openings_left ≡ Ok (record { tag = tag; empty = empty; openings_left = openings_left }, j) =
     rw (← here, ← c, ← a, ← n, ← k) h in
     rw t refl
 

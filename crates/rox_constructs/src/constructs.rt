@@ -4,6 +4,7 @@
 ghost use Rattle.std.specs.Prelude.{◌≡◌, ◌<◌, ◌+◌, ℕ, slice_index, ◌≢◌};
 ghost use Rattle.rox_grammar.specs.declared.fault.Word.TheVariants as word;
 ghost use Rattle.rox_reading.specs.Machine as machine;
+ghost use Rattle.rox_grammar.specs.Faults.{cut_off};
 ghost use Rattle.rox_grammar.specs.Forest.{Forest};
 ghost use Rattle.rox_grammar.specs.Written.{Item};
 ghost use Rattle.rox_grammar.specs.NameParts.{same_qname};
@@ -64,7 +65,7 @@ fn comment_or_section<'input>(
 /// Returns the fault of a start tag that is cut off by the end of the text.
 fn cut_off_fault(builder: &Builder<'_>, context: Context<'_, '_>) -> Fault
     ensures { (end : ℕ) (stack : Open) (done : Forest Item) → Represents end stack done builder.now
-        → result ≡ machine.cut_off_fault context.entry.main stack }
+        → result ≡ cut_off context.entry.main stack }
 {
     if !context.main {
         Fault::UnexpectedEndOfStream

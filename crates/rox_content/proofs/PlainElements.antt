@@ -4,7 +4,8 @@ use Rattle.rox_grammar.specs.Written.{Element, Item, NamespaceDecl}
 use Rattle.rox_grammar.specs.Forest.{Forest}
 use Rattle.rox_grammar.specs.State.{Open, scope_of}
 use Rattle.rox_grammar.specs.declared.fault.Fault.TheVariants as fault
-use Rattle.rox_reading.specs.Machine.{tag_step, opened_by, cut_off_fault}
+use Rattle.rox_grammar.specs.Faults.{cut_off}
+use Rattle.rox_reading.specs.Machine.{tag_step, opened_by}
 use Rattle.rox_reading.specs.Refusals.{lifted}
 use Rattle.rox_reading.specs.Tags.{Values}
 use Rattle.rox_rows.specs.declared.row.NodeKind.TheVariants as kind
@@ -83,7 +84,7 @@ leaf_reads b m u above src i t g empty p = record {
       let e = t.end in
       let sc = g.scope end s.stack s.done h.shows in
       let tg : Tagged old new t.tag (scope_of s.stack) x.tag = subst (λ (a : List NamespaceDecl). Tagged old new t.tag a x.tag) sc x.tagged in
-      let cut = cut_off_fault context.values.main s.stack in
+      let cut = cut_off context.values.main s.stack in
       let shows = grown_shows end s.stack s.done b m h.shows g.fine.sound g.fine.elements (grown_by old new t.tag (scope_of s.stack) x.tag tg) g.same.nodes g.same.opened g.same.pending g.same.joined in
       let node : IsNode new (scope_of s.stack) i e (kind.Element t.tag.element) (Element s.at e x.tag) =
       subst (λ (n : ℕ). IsNode new (scope_of s.stack) i e (kind.Element t.tag.element) (Element n e x.tag)) at (is_node old new t.tag (scope_of s.stack) x.tag i e tg) in
@@ -109,7 +110,7 @@ open_reads b m u above src i t g opens p = record {
       let e = t.end in
       let sc = g.scope end s.stack s.done h.shows in
       let tg : Tagged old new t.tag (scope_of s.stack) x.tag = subst (λ (a : List NamespaceDecl). Tagged old new t.tag a x.tag) sc x.tagged in
-      let cut = cut_off_fault context.values.main s.stack in
+      let cut = cut_off context.values.main s.stack in
       let shows = grown_shows end s.stack s.done b m h.shows g.fine.sound g.fine.elements (grown_by old new t.tag (scope_of s.stack) x.tag tg) g.same.nodes g.same.opened g.same.pending g.same.joined in
       let adds = p.adds.value end e s.openings_left s x.tag shows (sym at) (is_opening old new t.tag (scope_of s.stack) x.tag i tg x.starts) in
       rw (tag_is context src s i cut _ _ _ x.tag t.tag.empty s.openings_left e at refl sc h.attributes h.namespaces (x.read context.values cut s.openings_left)

@@ -21,13 +21,12 @@ use Rattle.rox_grammar.specs.Counts.{listable, with_new, distinct_pairs}
 use Rattle.rox_grammar.specs.WellNamed.{IsWellNamed}
 use Rattle.rox_grammar.specs.State.{Open, root, inside, is_root, depth_of, scope_of, attributes_so_far, pairs_so_far, FitsLimits}
 use Rattle.rox_grammar.specs.ContentPoints.{TagTo, is_content, is_main, TagBegins, in_content, StepsOver, a_run as takes_run, a_section, a_misc, an_empty_tag, a_start_tag, an_end_tag, goes}
-use Rattle.rox_grammar.specs.Faults.{Stands, lacks, other_name, none_open, in_section, in_misc, in_tag, in_end, unknown, unclosed, in_value, at_point}
+use Rattle.rox_grammar.specs.Faults.{cut_off, Stands, lacks, other_name, none_open, in_section, in_misc, in_tag, in_end, unknown, unclosed, in_value, at_point}
 use Rattle.rox_reading.specs.Refusals.{Refusal, here}
 use Rattle.rox_reading.specs.State.{State}
 use Rattle.rox_reading.specs.Markup.{comment_at, instruction_at, cdata_at, end_tag_at}
 use Rattle.rox_reading.specs.Tags.{tag_at}
 use Rattle.rox_reading.specs.Machine.{Context, counted, value_opener, comment_step, cdata_step, instruction_step, end_step, tag_step, opened_by, closed_by, name_span, step, drive, text_ends, drive_text, budget, opener}
-use Rattle.rox_reading.specs.Machine as machine
 use Rattle.rox_theory.specs.Openers.{AreTexts, AgreesValue, AgreesContent}
 use Rattle.rox_theory.proofs.Productions.{cdata_parts, end_parts, char_data_parts}
 use Rattle.rox_theory.proofs.Basics.{chosen}
@@ -189,7 +188,7 @@ module _ (opens : ℕ → Inclusion) (es : List Entity) (limit : ℕ) (text : Li
     unfolding tag_step
     tag_fails s e begins opens' fine place h =
         let few = (fits_few limit s.stack s.done (fits_at s fine)).1 in
-        let cut = machine.cut_off_fault (is_main k) s.stack in
+        let cut = cut_off (is_main k) s.stack in
         bind_err (tag_at (tag_values es d k) cut (scope_of s.stack) (attributes_so_far s.stack s.done) (distinct_pairs (pairs_so_far s.stack s.done)) src s.at s.openings_left) _ e h
         (λ bad. by_kind (tag_at_fails opens es values texts d k deep src utf8 (place_of s) s.openings_left few e opens' bad))
         (λ x read h.

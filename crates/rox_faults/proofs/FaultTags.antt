@@ -23,7 +23,7 @@ use Rattle.rox_grammar.proofs.NamesApart.{DeclarableBehind, DistinctBehind, decl
 use Rattle.rox_grammar.specs.Document.{attributes_in, most_attributes, most_pairs}
 use Rattle.rox_grammar.specs.Counts.{with_new, distinct_pairs}
 use Rattle.rox_grammar.specs.Entities.{Entity, most_deep}
-use Rattle.rox_grammar.specs.State.{Open, State, scope_of, attributes_so_far, pairs_so_far}
+use Rattle.rox_grammar.specs.State.{State, scope_of, attributes_so_far, pairs_so_far}
 use Rattle.rox_grammar.specs.OpenElements.{tree_so_far}
 use Rattle.rox_grammar.specs.Due.{a_byte, a_qname, chars_to, IsMissing, Misses, no_byte, none_left, DueInPair, its_name, equals, opening, its_value, closing, value_end}
 use Rattle.rox_faults.proofs.DueForms.{a_quote, no_space, no_quote}
@@ -35,7 +35,6 @@ use Rattle.rox_reading.specs.Markup.{raw_value_at, attribute_at, TagItem, more, 
 use Rattle.rox_reading.specs.Refusals.{Refusal, here}
 use Rattle.rox_reading.specs.Values.{value_at}
 use Rattle.rox_reading.specs.Machine.{values_of, value_opener}
-use Rattle.rox_reading.specs.Machine as machine
 use Rattle.rox_reading.specs.Tags.{Values, TagSoFar, uri_tested, declared, taken, attribute_with, after_tag_item, attributes_at, names_tested, tested_at, tag_tested, tag_at}
 use Rattle.rox_theory.proofs.Productions.{ncname_parts}
 use Rattle.rox_theory.proofs.Basics.{ok_same, bind_ok, chosen, within, run_end_le, chars_sound, byte_sound}
@@ -195,13 +194,9 @@ module _ (src : List ℕ) (utf8 : IsUtf8 src) where
 abbrev pub tag_values : List Entity → (d k : ℕ) → Values
 tag_values es d k = values_of es d (is_main k)
 
--- One fault in two words.
-cut_same : (main : Bool) (stack : Open) → cut_off main stack ≡ machine.cut_off_fault main stack
-cut_same main stack = cc
-
 -- A tag that is cut off.
-cut_stands : (main : Bool) (O : Inclusion) (src : List ℕ) (s : State) (b p c : ℕ) (name : Name) (as' : List Attribute) → TagTo main O src s p b c name as' → length src ≤ p → InTag main O src s b (machine.cut_off_fault main s.stack)
-cut_stands main O src s b p c name as' to past = subst (InTag main O src s b) (cut_same main s.stack) (in_rest p c name as' _ to (cut past))
+cut_stands : (main : Bool) (O : Inclusion) (src : List ℕ) (s : State) (b p c : ℕ) (name : Name) (as' : List Attribute) → TagTo main O src s p b c name as' → length src ≤ p → InTag main O src s b (cut_off main s.stack)
+cut_stands main O src s b p c name as' to past = in_rest p c name as' _ to (cut past)
 
 -- One more at the end.
 attributes_more : (main : Bool) (O : Inclusion) (src : List ℕ) (k d i j b c : ℕ) (as' : List Attribute) (a : Attribute) → Attributes main O src i j b c as' → j < spaces_end src j → IsAttribute main O src (spaces_end src j) k c d a
@@ -335,9 +330,9 @@ module _ (opens : ℕ → Inclusion) (es : List Entity) (agrees : (d l : ℕ) �
     -- One turn, and what follows it.
     turn_goes : (n p c : ℕ) (as' : List Attribute) (h : TagSoFar) (e : Refusal) → UpTo p c as' → IsCharBoundary src p → length src ≤ p + suc n → h.own ≡ namespace_decls_of as'
         → ((j d : ℕ) (more' : List Attribute) (held : TagSoFar) → UpTo j d more' → IsCharBoundary src j → length src ≤ j + n → held.own ≡ namespace_decls_of more'
-        → attributes_at n alone (machine.cut_off_fault (is_main level) s.stack) (distinct_pairs (pairs_so_far s.stack s.done)) src j d held ≡ Err e → TagFails e)
+        → attributes_at n alone (cut_off (is_main level) s.stack) (distinct_pairs (pairs_so_far s.stack s.done)) src j d held ≡ Err e → TagFails e)
         → (t : TagItem) (j : ℕ) → tag_item_at src p ≡ Ok (t, j)
-        → after_tag_item (λ j l held. attributes_at n alone (machine.cut_off_fault (is_main level) s.stack) (distinct_pairs (pairs_so_far s.stack s.done)) src j l held) alone (distinct_pairs (pairs_so_far s.stack s.done)) src c h t j ≡ Err e → TagFails e
+        → after_tag_item (λ j l held. attributes_at n alone (cut_off (is_main level) s.stack) (distinct_pairs (pairs_so_far s.stack s.done)) src j l held) alone (distinct_pairs (pairs_so_far s.stack s.done)) src c h t j ≡ Err e → TagFails e
     turn_goes n p c as' h e to here' enough own next opened j turn bad = no_fault _ e bad
     turn_goes n p c as' h e to here' enough own next closed j turn bad = no_fault _ e bad
     turn_goes n p c as' h e to here' enough own next (more raw) j turn bad =
@@ -362,20 +357,20 @@ module _ (opens : ℕ → Inclusion) (es : List Entity) (agrees : (d l : ℕ) �
 
     -- Attributes and declarations up to the end of the tag.
     attributes_fail : (n p c : ℕ) (as' : List Attribute) (h : TagSoFar) (e : Refusal) → UpTo p c as' → IsCharBoundary src p → length src ≤ p + n → h.own ≡ namespace_decls_of as'
-        → attributes_at n alone (machine.cut_off_fault (is_main level) s.stack) (distinct_pairs (pairs_so_far s.stack s.done)) src p c h ≡ Err e → TagFails e
+        → attributes_at n alone (cut_off (is_main level) s.stack) (distinct_pairs (pairs_so_far s.stack s.done)) src p c h ≡ Err e → TagFails e
     unfolding attributes_at
-    attributes_fail zero p c as' h e to here' enough own bad = let is : here (machine.cut_off_fault (is_main level) s.stack) ≡ e = cc in itself (machine.cut_off_fault (is_main level) s.stack) is (cut_stands (is_main level) (opens level) src s b p c to.0 as' to.1 (omega arith))
+    attributes_fail zero p c as' h e to here' enough own bad = let is : here (cut_off (is_main level) s.stack) ≡ e = cc in itself (cut_off (is_main level) s.stack) is (cut_stands (is_main level) (opens level) src s b p c to.0 as' to.1 (omega arith))
     attributes_fail (suc n) p c as' h e to here' enough own bad =
         let known = distinct_pairs (pairs_so_far s.stack s.done) in
         chosen (leb (length src) p) _ _ _ bad
-        (λ out bad. let is : here (machine.cut_off_fault (is_main level) s.stack) ≡ e = cc in itself (machine.cut_off_fault (is_main level) s.stack) is (cut_stands (is_main level) (opens level) src s b p c to.0 as' to.1 (leb-true _ _ out)))
+        (λ out bad. let is : here (cut_off (is_main level) s.stack) ≡ e = cc in itself (cut_off (is_main level) s.stack) is (cut_stands (is_main level) (opens level) src s b p c to.0 as' to.1 (leb-true _ _ out)))
         (λ inside bad. lifted_err (tag_item_at src p) _ e bad
         (λ f bad is. itself f is (turn_fails p c as' f to (leb-false _ _ inside) bad))
         (λ x turn bad. turn_goes n p c as' h e to here' enough own (λ j d more' held to' here' enough' own' bad. attributes_fail n j d more' held e to' here' enough' own' bad) x.0 x.1 turn bad))
 
     -- A start tag.
     pub tag_at_fails : (e : Refusal) → byte src s.at ≡ 60
-        → tag_at alone (machine.cut_off_fault (is_main level) s.stack) (scope_of s.stack) (attributes_so_far s.stack s.done) (distinct_pairs (pairs_so_far s.stack s.done)) src s.at b ≡ Err e → TagFails e
+        → tag_at alone (cut_off (is_main level) s.stack) (scope_of s.stack) (attributes_so_far s.stack s.done) (distinct_pairs (pairs_so_far s.stack s.done)) src s.at b ≡ Err e → TagFails e
     unfolding tag_at tag_tested
     tag_at_fails e begins h =
         let known = distinct_pairs (pairs_so_far s.stack s.done) in
@@ -389,11 +384,11 @@ module _ (opens : ℕ → Inclusion) (es : List Entity) (agrees : (d l : ℕ) �
         itself (fault.InvalidElementNamePrefix (s.at + 1)) is (xmlns_prefix name.0 name.1 is_name ((bytes_eq-Decides name.0.prefix (word_text word.Xmlns)).0 reserved)))
         (λ free h.
         let text = qname_text src (s.at + 1) name.0 name.1 utf8 behind is_name in
-        bind_err (attributes_at (length src) alone (machine.cut_off_fault (is_main level) s.stack) known src name.1 b none_yet) _ e h
+        bind_err (attributes_at (length src) alone (cut_off (is_main level) s.stack) known src name.1 b none_yet) _ e h
         (λ bad. attributes_fail (length src) name.1 b [] none_yet e
         (name.0, (name.1, is_name, free, no_more name.1 b, are_declarable [] tt, pairs_there s.stack s.done [] few)) text.3 (omega arith) refl bad)
         (λ x rest h.
-        let r = rest_sound alone (opens level) (agrees deeper level deep) src utf8 (length src) (machine.cut_off_fault (is_main level) s.stack) known name.1 b none_yet x rest in
+        let r = rest_sound alone (opens level) (agrees deeper level deep) src utf8 (length src) (cut_off (is_main level) s.stack) known name.1 b none_yet x rest in
         let all = taken_sound known r.0 none_yet x.0.held r.4 in
         let few_pairs : length (with_new known (listable_of (namespace_decls_of r.0))) ≤ most_pairs = subst (λ (ds : List NamespaceDecl). length (with_new known (listable_of ds)) ≤ most_pairs) all.own (all.pairs few) in
         let c = x.0.openings_left in

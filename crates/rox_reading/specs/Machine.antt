@@ -13,6 +13,7 @@ use Rattle.rox_grammar.specs.FixedTexts.{at}
 use Rattle.rox_grammar.specs.Content.{is_verbatim, section}
 use Rattle.rox_grammar.specs.Counts.{distinct_pairs}
 use Rattle.rox_grammar.specs.Entities.{Replacement, Entity, most_within, most_deep}
+use Rattle.rox_grammar.specs.Faults.{cut_off}
 use Rattle.rox_reading.specs.Lexical.{◌>>=◌}
 use Rattle.rox_reading.specs.Refusals.{Refusal, here, lifted, elsewhere}
 use Rattle.rox_reading.specs.Markup.{comment_at, instruction_at, cdata_at, end_tag_at}
@@ -73,19 +74,13 @@ character_data_step context src s =
     lifted (raw_character_data_at src s.at) >>= λ x.
     if is_verbatim x.0 then lifted (with_item context.limit s x.1 (Text s.at x.1 x.0 true)) else data_parts context (length src) src s.at x.1 s
 
--- The fault if the text ends right after the name or an attribute of a tag.
-abbrev pub cut_off_fault : (main : Bool) → Open → Fault
-cut_off_fault true root = fault.NoRootNode
-cut_off_fault true (inside start tag before up) = fault.UnclosedRootNode
-cut_off_fault false stack = fault.UnexpectedEndOfStream
-
 abbrev pub opened_by : ℕ → State → Tag → Bool → ℕ → ℕ → Result State Fault
 opened_by limit s t true openings_left j = with_item limit (record { at = s.at; done = s.done; stack = s.stack; openings_left = openings_left }) j (Element s.at j t)
 opened_by limit s t false openings_left j = counted limit (record { at = j; done = Nil; stack = inside s.at t s.done s.stack; openings_left = openings_left })
 
 unfoldable pub tag_step : Context → List ℕ → State → Result State Refusal
 tag_step context src s =
-    tag_at context.values (cut_off_fault context.values.main s.stack) (scope_of s.stack) (attributes_so_far s.stack s.done) (distinct_pairs (pairs_so_far s.stack s.done)) src s.at s.openings_left
+    tag_at context.values (cut_off context.values.main s.stack) (scope_of s.stack) (attributes_so_far s.stack s.done) (distinct_pairs (pairs_so_far s.stack s.done)) src s.at s.openings_left
     >>= λ x. lifted (opened_by context.limit s x.0.tag x.0.empty x.0.openings_left x.1)
 
 -- The span of a name that ends at `n`, in a tag whose name starts at `i`. Without a prefix it has no colon.

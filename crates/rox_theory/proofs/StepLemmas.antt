@@ -18,7 +18,8 @@ use Rattle.rox_reading.specs.Markup.{comment_at, Instruction, instruction_at, cd
 use Rattle.rox_reading.specs.Tags.{tag_at}
 use Rattle.rox_grammar.specs.State.{Open, root, inside, scope_of, attributes_so_far, pairs_so_far}
 use Rattle.rox_reading.specs.State.{State, depth_of}
-use Rattle.rox_reading.specs.Machine.{Context, comment_step, cdata_step, instruction_step, end_step, tag_step, opened_by, closed_by, cut_off_fault, step}
+use Rattle.rox_grammar.specs.Faults.{cut_off}
+use Rattle.rox_reading.specs.Machine.{Context, comment_step, cdata_step, instruction_step, end_step, tag_step, opened_by, closed_by, step}
 use Rattle.rox_theory.specs.Openers.{AgreesValue}
 use Rattle.rox_theory.proofs.Productions.{comment_parts, pi_parts, cdata_parts, end_parts, char_data_parts}
 use Rattle.rox_theory.proofs.Basics.{ok_same, bind_ok, bind_lifted_only, chosen, within}
@@ -68,8 +69,8 @@ module _ (context : Context) (O : Inclusion) (values : AgreesValue context.value
   pub tag_read : (most : ℕ) (s t : State) → context.limit ≤ most → byte src s.at ≡ 60 → IsValidState most s → tag_step context src s ≡ Ok t → Tags s t × IsValidState most t
   unfolding tag_step
   tag_read most s t limits here fine h =
-      bind_ok (tag_at context.values (cut_off_fault context.values.main s.stack) (scope_of s.stack) (attributes_so_far s.stack s.done) (distinct_pairs (pairs_so_far s.stack s.done)) src s.at s.openings_left) _ _ h (λ x read h.
-      let sound = tags.tag_sound context.values O values src utf8 (cut_off_fault context.values.main s.stack) (scope_of s.stack) (attributes_so_far s.stack s.done) (distinct_pairs (pairs_so_far s.stack s.done)) s.at x.1 s.openings_left x.0 here fine.pairs read in
+      bind_ok (tag_at context.values (cut_off context.values.main s.stack) (scope_of s.stack) (attributes_so_far s.stack s.done) (distinct_pairs (pairs_so_far s.stack s.done)) src s.at s.openings_left) _ _ h (λ x read h.
+      let sound = tags.tag_sound context.values O values src utf8 (cut_off context.values.main s.stack) (scope_of s.stack) (attributes_so_far s.stack s.done) (distinct_pairs (pairs_so_far s.stack s.done)) s.at x.1 s.openings_left x.0 here fine.pairs read in
       let stands = sound.0 in
       let adds : Adds s (Element s.at x.1 x.0.tag) = record { attributes = stands.attributes; pairs = stands.pairs; named = stands.well_named } in
       bind_lifted_only (opened_by context.limit s x.0.tag x.0.empty x.0.openings_left x.1) t h (λ h.
@@ -188,7 +189,7 @@ module _ (context : Context) (O : Inclusion) (values : AgreesValue context.value
   read_tag s j c tag empty is fine =
       let found = opened_found s j c tag empty fine in
       let adds = found.0 in
-      let read = tags.tag_complete context.values O values src utf8 (cut_off_fault context.values.main s.stack) (scope_of s.stack) (attributes_so_far s.stack s.done) (distinct_pairs (pairs_so_far s.stack s.done)) s.at j s.openings_left c tag empty is adds.named adds.attributes adds.pairs in
+      let read = tags.tag_complete context.values O values src utf8 (cut_off context.values.main s.stack) (scope_of s.stack) (attributes_so_far s.stack s.done) (distinct_pairs (pairs_so_far s.stack s.done)) s.at j s.openings_left c tag empty is adds.named adds.attributes adds.pairs in
       rw (read, found.1) refl
 
   tag_found : (s : State) (j c : ℕ) (tag : Tag) (empty : Bool) → IsTag context.values.main O src s.at j s.openings_left c empty tag → IsValidState context.limit (after s j tag empty c) → step context src s ≡ Ok (after s j tag empty c)

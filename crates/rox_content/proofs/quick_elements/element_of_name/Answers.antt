@@ -1,7 +1,8 @@
 use Rattle.std.proofs.Common.{Bool, true, [], Ok, arith, refl, sym, ap, subst, ◌∙◌, List}
 use Rattle.rox_grammar.specs.Written.{NamespaceDecl}
 use Rattle.rox_grammar.specs.State.{scope_of}
-use Rattle.rox_reading.specs.Machine.{opened_by, cut_off_fault}
+use Rattle.rox_grammar.specs.Faults.{cut_off}
+use Rattle.rox_reading.specs.Machine.{opened_by}
 use Rattle.rox_reading.specs.Refusals.{lifted}
 use Rattle.rox_tags.specs.ElementRow.{Tagged}
 use Rattle.rox_builder.specs.BuilderState.{opened_in}
@@ -33,7 +34,7 @@ returns c = record {
       let src = c.args.cursor.now.text.now in
       let sc = top_scope old s.stack split.0 o (sym (ap (opened_in old) split.1) ∙ h.shows.open_rows) in
       let tg : Tagged old old t (scope_of s.stack) x.tag = subst (λ (a : List NamespaceDecl). Tagged old old t a x.tag) sc x.tagged in
-      let cut = cut_off_fault context.values.main s.stack in
+      let cut = cut_off context.values.main s.stack in
       let adds = c.put_open.ensures.adds.value end e s.openings_left s x.tag h.shows (sym h.here) (is_opening old old t (scope_of s.stack) x.tag pos tg x.starts) in
       rw (tag_is context src s pos cut _ _ _ x.tag t.empty s.openings_left e h.here refl sc h.attributes h.namespaces (x.read context.values cut s.openings_left)
       ∙ ap (λ (y : Bool). lifted (opened_by context.limit s x.tag y s.openings_left e)) c.in-Some-start_tag_of_name.ensures.opens)
