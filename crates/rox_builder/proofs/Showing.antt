@@ -6,13 +6,13 @@ use Rattle.std.proofs.lemmas.Bool.{lt-leb}
 use Rattle.std.proofs.lemmas.List.{map-append, length-map, map-set, same_from_push, get_or_at, take_all, take_more}
 use Rattle.rox_grammar.specs.declared.fault.Fault.TheVariants as fault
 use Rattle.rox_grammar.specs.Forest.{Forest, Nil, Cons, join, size}
-use Rattle.rox_grammar.specs.Written.{Tag, Item, Element, Text, NamespaceDecl, merge, leaf}
+use Rattle.rox_grammar.specs.Written.{Tag, Item, Element, Text, NamespaceDecl, merge, leaf, is_text}
 use Rattle.rox_grammar.specs.Tree as tree
 use Rattle.rox_grammar.specs.Tree.{Node, listed, node_in, scope_in, resolved}
 use Rattle.rox_grammar.specs.State.{Open, root, inside, scope_of, nodes_so_far}
 use Rattle.rox_reading.specs.State.{State}
 use Rattle.rox_reading.specs.Machine.{counted}
-use Rattle.rox_reading.proofs.Forests.{is_text, add, join-nil, size-join, merge-piece, add-text, add_clean, merge-item, clean-item}
+use Rattle.rox_reading.proofs.Forests.{add, join-nil, size-join, merge-piece, add-text, add_clean, merge-item, clean-item}
 use Rattle.rox_rows.specs.Rows.{RowView, row_view, preorder_rows, node, AttributeRow, attribute_rows, node_rows}
 use Rattle.rox_builder.specs.OpenRows.{top, open_line, rows_to, so_far}
 use Rattle.rox_builder.specs.PendingText.{text_of, waiting}

@@ -1,5 +1,5 @@
 -- The tree of a text with its names as they are written. Each place is an offset in bytes from the start of the source.
-use Rattle.std.specs.Prelude.{ℕ, Bool, false, ◌||◌, not, List, ◌++◌, Option, Some, None, bytes_eq, filter, map, if◌then◌else◌, codes}
+use Rattle.std.specs.Prelude.{◌≡◌, ℕ, Bool, true, false, ◌||◌, not, List, ◌++◌, Option, Some, None, bytes_eq, filter, map, if◌then◌else◌, codes}
 use Rattle.rox_grammar.specs.Forest.{Forest, Nil, Cons, join}
 
 -- NS 4: a prefix, which is empty if none is written, and a local part.
@@ -38,6 +38,19 @@ pub data Item : Type 0 where
   Text : (start end : ℕ) → (value : List ℕ) → (borrowed : Bool) → Item
   Comment : (start end : ℕ) → (text : List ℕ) → Item
   PI : (start end : ℕ) → (target : List ℕ) → (value : Option (List ℕ)) → Item
+
+-- Whether the item is a text.
+abbrev pub is_text : Item → Bool
+is_text (Element a e t) = false
+is_text (Text a e v b) = true
+is_text (Comment a e t) = false
+is_text (PI a e t v) = false
+
+-- The last item of the row, if there is one, is not a text.
+abbrev pub Clean : Forest Item → Type 0
+Clean Nil = Unit {0}
+Clean (Cons i c Nil) = is_text i ≡ false
+Clean (Cons i c (Cons j d r)) = Clean (Cons j d r)
 
 -- NS 3: `xmlns:p` declares p. Departure: any other name with the local part `xmlns` declares the default, where NS 3 has only
 -- `xmlns` for it.

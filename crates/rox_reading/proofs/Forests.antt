@@ -1,7 +1,7 @@
 -- Forests, merged from left to right.
-use Rattle.std.proofs.Common.{◌≡◌, ℕ, ◌+◌, ◌≤◌, Bool, true, false, List, ◌++◌, refl, sym, ap, ◌∙◌, arith, append_assoc, Option}
+use Rattle.std.proofs.Common.{◌≡◌, ℕ, ◌+◌, ◌≤◌, Bool, false, List, ◌++◌, refl, sym, ap, ◌∙◌, arith, append_assoc, Option}
 use Rattle.rox_grammar.specs.Forest.{Forest, Nil, Cons, join, size}
-use Rattle.rox_grammar.specs.Written.{Tag, Item, Element, Text, Comment, PI, NamespaceDecl, glue, merge, leaf}
+use Rattle.rox_grammar.specs.Written.{Tag, Item, Element, Text, Comment, PI, NamespaceDecl, is_text, Clean, glue, merge, leaf}
 use Rattle.rox_grammar.specs.Tree.{scope_in, node_in, resolved}
 use Rattle.rox_grammar.specs.WellNamed.{AreWellNamed}
 use Rattle.rox_grammar.specs.Counts.{own_pairs, pairs, attribute_count}
@@ -36,19 +36,6 @@ pairs-join (Cons i c r) g =
 pub attribute_count-join : (f g : Forest Item) → attribute_count (join f g) ≡ attribute_count f + attribute_count g
 attribute_count-join Nil g = omega arith
 attribute_count-join (Cons i c r) g = omega (arith, attribute_count-join r g)
-
--- An item that is not a text.
-abbrev pub is_text : Item → Bool
-is_text (Element a e t) = false
-is_text (Text a e v b) = true
-is_text (Comment a e t) = false
-is_text (PI a e t v) = false
-
--- Its last item is not a text.
-abbrev pub Clean : Forest Item → Type 0
-Clean Nil = Unit {0}
-Clean (Cons i c Nil) = is_text i ≡ false
-Clean (Cons i c (Cons j d r)) = Clean (Cons j d r)
 
 -- One more piece of text at the end of what is merged.
 abbrev pub add : ℕ → ℕ → List ℕ → Bool → Forest Item → Forest Item

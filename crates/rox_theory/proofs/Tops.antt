@@ -1,14 +1,13 @@
 -- The top nodes of a document are no texts, so nothing is merged there.
 use Rattle.std.proofs.Common.{◌≡◌, ℕ, ◌+◌, Bool, false, List, refl, ap, arith}
 use Rattle.rox_grammar.specs.Forest.{Forest, Nil, Cons, join}
-use Rattle.rox_grammar.specs.Written.{Item, Element, Text, Comment, PI, merge}
+use Rattle.rox_grammar.specs.Written.{Item, Element, Text, Comment, PI, merge, is_text}
 use Rattle.rox_grammar.specs.Content.{Inclusion, IsMisc, IsElement}
 use Rattle.rox_grammar.specs.Entities.{Entity}
 use Rattle.rox_grammar.specs.Doctype.{Asked, Subset, IsDoctype, no_more, skipped_declaration, an_entity}
 use Rattle.rox_grammar.specs.Doctype as dtd
 use Rattle.rox_grammar.specs.Document.{Misc, no_misc, space, an_item, ParseOf}
 use Rattle.rox_theory.specs.ParseParts.{MayHaveDoctype}
-use Rattle.rox_reading.proofs.Forests.{is_text}
 use Rattle.rox_theory.proofs.ParseParts.{parts}
 
 -- No item of the row is a text.

@@ -1,8 +1,7 @@
 -- Properties of the rows of items of every document.
 use Rattle.std.specs.Prelude.{◌≡◌, ◌&&◌, Bool, false}
 use Rattle.rox_grammar.specs.Forest.{Forest, Nil, Cons}
-use Rattle.rox_grammar.specs.Written.{Item, Element, Text, Comment, PI}
-use Rattle.rox_reading.proofs.Forests.{is_text}
+use Rattle.rox_grammar.specs.Written.{Item, Element, Text, Comment, PI, is_text}
 
 -- Whether the first item is a text.
 abbrev pub items_begin_with_text : Forest Item → Bool
