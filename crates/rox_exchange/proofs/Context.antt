@@ -4,7 +4,7 @@ use Rattle.rox_grammar.specs.Forest.{Forest, Nil, Cons, join}
 use Rattle.rox_grammar.specs.Written.{Tag, Item, Element, Text, Comment, PI, glue, merge}
 use Rattle.rox_grammar.specs.Entities.{no_entities}
 use Rattle.rox_grammar.specs.Content.{comment, instruction, IsElement, nest, Content, ends, run, cdata, misc, node}
-use Rattle.rox_grammar.specs.RunParts.{Parts}
+use Rattle.rox_grammar.proofs.RunParts.{Parts}
 use Rattle.rox_grammar.specs.Exchange.{Move, moved}
 use Rattle.rox_exchange.specs.Local.{Follows, Fronts, moved_items}
 use Rattle.rox_exchange.specs.ElementWith.{ElementWith, here, inside, ContentWith, between, exchanged_items}

@@ -7,7 +7,7 @@ use Rattle.std.specs.List.{list_any}
 use Rattle.rox_grammar.specs.Names.{slice}
 use Rattle.rox_grammar.specs.References.{entity_reference}
 use Rattle.rox_grammar.specs.Content.{DataByte, literals, line_ends, piece, last_part, then_entity, IsMisc, IsElement, empty, nest, Content, ends, run, cdata, misc, node}
-use Rattle.rox_grammar.specs.RunParts.{Parts}
+use Rattle.rox_grammar.proofs.RunParts.{Parts}
 use Rattle.rox_theory.proofs.Following.{tag_free}
 use Rattle.rox_exchange.specs.ElementWith.{ElementWith, here, inside, ContentWith, between}
 use Rattle.rox_exchange.proofs.Context.{join_assoc, join_nil, content_join}

@@ -3,7 +3,7 @@ use Rattle.std.proofs.Common.{◌≡◌, ℕ, ◌+◌, ◌<◌, ◌≤◌, Bool,
 use Rattle.rox_grammar.specs.Forest.{Forest, Nil, Cons, join}
 use Rattle.rox_grammar.specs.Written.{Item, Element, Text, Comment, PI, glue, merge}
 use Rattle.rox_grammar.specs.Content.{IsMisc, IsElement, empty, nest, Content, ends, run, cdata, misc, node}
-use Rattle.rox_grammar.specs.RunParts.{Parts}
+use Rattle.rox_grammar.proofs.RunParts.{Parts}
 use Rattle.rox_grammar.specs.Entities.{no_entities}
 use Rattle.rox_grammar.specs.Document.{Misc, no_misc, space, an_item}
 use Rattle.rox_exchange.proofs.Order.{tag_lt, end_lt, misc_lt, content_le, cdata_le}

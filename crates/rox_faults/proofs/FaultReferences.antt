@@ -10,7 +10,7 @@ use Rattle.rox_grammar.specs.Written.{Item}
 use Rattle.rox_grammar.specs.Names.{byte, slice}
 use Rattle.rox_grammar.specs.References.{is_digit, is_hex_digit, IsNumber, IsReference, IsCharacter, decimal, hexadecimal, named, predefined, entity_reference}
 use Rattle.rox_grammar.specs.Content.{Inclusion, DataByte, Part, part_ends, as_written, from_reference, last_part, then_entity, Value, value_ends, line_end, white, other, a_character, an_entity}
-use Rattle.rox_grammar.specs.RunParts.{Parts}
+use Rattle.rox_grammar.proofs.RunParts.{Parts}
 use Rattle.rox_grammar.specs.Entities.{Replacement, Entity, text_of}
 use Rattle.rox_grammar.specs.Faults.{InReferences, malformed, undeclared}
 use Rattle.rox_theory.proofs.ReferenceStarts.{hash_bytes, hex_bytes}

@@ -11,7 +11,7 @@ use Rattle.rox_grammar.specs.Written.{Item, Text, leaf}
 use Rattle.rox_grammar.specs.Names.{byte, slice}
 use Rattle.rox_grammar.specs.References.{IsReference, predefined, entity_reference}
 use Rattle.rox_grammar.specs.Content.{Inclusion, DataByte, is_verbatim, line_ends, piece, Part, last_part, IsCharacterData}
-use Rattle.rox_grammar.specs.RunParts.{Parts, PartsTo}
+use Rattle.rox_grammar.proofs.RunParts.{Parts, PartsTo}
 use Rattle.rox_grammar.specs.Content as content
 use Rattle.rox_grammar.specs.Entities.{Replacement, Entity, text_of}
 use Rattle.rox_grammar.specs.WellNamed.{AreWellNamed}

@@ -8,7 +8,7 @@ use Rattle.rox_grammar.specs.Constructs.{AreChars, IsCData, IsEnd}
 use Rattle.rox_grammar.specs.FixedTexts.{at}
 use Rattle.rox_grammar.specs.Content.{Inclusion, IsCharacterData, IsMisc, comment, instruction, Value, Content}
 use Rattle.rox_grammar.proofs.TagParts.{tag_parts}
-use Rattle.rox_grammar.specs.RunParts.{Parts, PartsTo}
+use Rattle.rox_grammar.proofs.RunParts.{Parts, PartsTo}
 use Rattle.rox_grammar.specs.Entities.{Replacement, Entity, text_of, most_deep}
 use Rattle.rox_grammar.specs.State as grammar
 use Rattle.rox_grammar.specs.State.{Open, root, inside, is_root, depth_of}

@@ -6,7 +6,7 @@ use Rattle.rox_grammar.specs.Written.{Item}
 use Rattle.rox_grammar.specs.Names.{byte, slice}
 use Rattle.rox_grammar.specs.References.{IsReference, IsCharacter, predefined, entity_reference}
 use Rattle.rox_grammar.specs.Content.{Inclusion, last_part, then_entity, Value, value_ends, line_end, white, other, a_character, an_entity}
-use Rattle.rox_grammar.specs.RunParts.{Parts, PartsTo}
+use Rattle.rox_grammar.proofs.RunParts.{Parts, PartsTo}
 use Rattle.rox_grammar.specs.Entities.{Replacement, Entity, text_of}
 use Rattle.rox_grammar.specs.ContentPoints.{RefersTo}
 use Rattle.rox_reading.proofs.Forests.{join_assoc}

@@ -6,5 +6,6 @@ pub mod NamesApart
 pub mod TagParts
 pub mod FirstEntity
 pub mod Lists
+pub mod RunParts
 pub mod Stretches
 pub mod AtIndex

@@ -14,7 +14,6 @@ pub mod Names
 pub mod Constructs
 pub mod References
 pub mod Content
-pub mod RunParts
 pub mod TextStart
 pub mod Entities
 pub mod Doctype

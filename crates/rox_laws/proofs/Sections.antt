@@ -11,7 +11,7 @@ use Rattle.rox_grammar.specs.Tree.{Node, node_in}
 use Rattle.rox_grammar.specs.Names.{byte, slice}
 use Rattle.rox_grammar.specs.Constructs.{IsCData, IsEnd}
 use Rattle.rox_grammar.specs.Content.{DataByte, data_bytes_of, piece, Part, part_ends, as_written, from_reference, IsTag, start_tag, IsMisc, comment, instruction, IsElement, empty, nest, Content, ends, run, cdata, misc, node}
-use Rattle.rox_grammar.specs.RunParts.{Parts}
+use Rattle.rox_grammar.proofs.RunParts.{Parts}
 use Rattle.rox_grammar.specs.Document.{Misc, no_misc, space, an_item, ParseOf, IsTreeOf}
 use Rattle.rox_theory.proofs.Productions.{comment_parts, pi_parts, end_parts, char_data_parts}
 use Rattle.rox_theory.proofs.Without.{parse_without}

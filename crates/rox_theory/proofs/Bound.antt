@@ -9,7 +9,7 @@ use Rattle.rox_grammar.specs.Written.{Item, Text, Attribute, Tag, leaf, merge}
 use Rattle.rox_grammar.specs.Names.{byte, slice, spaces_end, IsName}
 use Rattle.rox_grammar.specs.References.{entity_reference}
 use Rattle.rox_grammar.specs.Content.{Inclusion, line_ends, literals, is_verbatim, value_bytes, last_part, then_entity, Value, value_ends, line_end, white, other, a_character, an_entity, Attributes, no_more, one_more, attribute, IsTag, IsElement, empty, nest, Content, ends, run, cdata, misc, node, start_tag}
-use Rattle.rox_grammar.specs.RunParts.{Parts}
+use Rattle.rox_grammar.proofs.RunParts.{Parts}
 use Rattle.rox_grammar.specs.Entities.{Entity, included_in_main, most_deep}
 use Rattle.rox_grammar.specs.Chars.{is_name_char, is_space}
 use Rattle.rox_grammar.specs.Doctype.{Asked, IsQuoted, IsExternalID, system, public, MayHaveNotation, IsDefinition, internal, external, IsKind, entity_begins, IsEntityDeclaration, entity_declaration, Subset, no_more as no_item, space as subset_space, an_item as subset_item, skipped_declaration, an_entity as an_entity_declared, MayHaveExternalID, external_id, no_external_id, BeginsDoctype, doctype_begins, IsDoctype}

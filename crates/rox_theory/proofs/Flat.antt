@@ -8,7 +8,7 @@ use Rattle.rox_grammar.specs.Written.{Item, Element, Text, Tag, leaf, merge}
 use Rattle.rox_grammar.specs.Names.{slice}
 use Rattle.rox_grammar.specs.Constructs.{IsCData, IsEnd}
 use Rattle.rox_grammar.specs.Content.{Inclusion, IsCharacterData, IsMisc, IsTag, IsElement, empty, nest, Content, ends, run, cdata, misc, node, literals, line_ends}
-use Rattle.rox_grammar.specs.RunParts.{Parts}
+use Rattle.rox_grammar.proofs.RunParts.{Parts}
 use Rattle.rox_grammar.specs.State.{Open, root, inside}
 use Rattle.rox_reading.specs.State.{State, depth_of}
 use Rattle.rox_reading.proofs.Forests.{join-nil, join_assoc}

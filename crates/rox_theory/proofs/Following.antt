@@ -6,7 +6,7 @@ use Rattle.rox_grammar.specs.Forest.{Forest}
 use Rattle.rox_grammar.specs.Written.{Item, Attribute, Tag}
 use Rattle.rox_grammar.specs.References.{entity_reference}
 use Rattle.rox_grammar.specs.Content.{Inclusion, last_part, then_entity, Value, value_ends, line_end, white, other, a_character, an_entity, Attributes, no_more, one_more, attribute, IsTag, IsElement, empty, nest, Content, ends, run, cdata, misc, node, start_tag}
-use Rattle.rox_grammar.specs.RunParts.{Parts}
+use Rattle.rox_grammar.proofs.RunParts.{Parts}
 use Rattle.rox_grammar.specs.Entities.{Entity, Includes, most_deep, no_entities, included_in_main}
 use Rattle.rox_grammar.specs.Expansion.{Counts}
 

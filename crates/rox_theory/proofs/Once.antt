@@ -8,7 +8,7 @@ use Rattle.rox_grammar.specs.Tree.{none_if_empty}
 use Rattle.rox_grammar.specs.Names.{slice, spaces_end}
 use Rattle.rox_grammar.specs.Content.{Inclusion, IsCharacterData, IsMisc, comment, instruction, IsTag, IsElement, Content, literals, line_ends}
 use Rattle.rox_grammar.proofs.TagParts.{tag_parts}
-use Rattle.rox_grammar.specs.RunParts.{Parts}
+use Rattle.rox_grammar.proofs.RunParts.{Parts}
 use Rattle.rox_grammar.specs.Entities.{Replacement, Entity, Spends, Includes, included_in_main, most_deep}
 use Rattle.rox_grammar.specs.State.{Open, root, inside}
 use Rattle.rox_reading.specs.Markup.{comment_at, Instruction, instruction_at, cdata_at, EndTag, end_tag_at}

@@ -6,7 +6,7 @@ use Rattle.rox_grammar.specs.Written.{Item}
 use Rattle.rox_grammar.specs.Names.{byte, slice}
 use Rattle.rox_grammar.specs.References.{IsReference, IsCharacter, predefined, entity_reference}
 use Rattle.rox_grammar.specs.Content.{Inclusion, DataByte, literal, data_bytes_of, Part, part_ends, as_written, from_reference, last_part, then_entity, piece, is_verbatim}
-use Rattle.rox_grammar.specs.RunParts.{Parts}
+use Rattle.rox_grammar.proofs.RunParts.{Parts}
 use Rattle.rox_reading.specs.Values.{Reference, character_of, entity_at, reference_at}
 use Rattle.rox_theory.proofs.Productions.{reference_parts}
 use Rattle.rox_theory.proofs.FailedReadings.{ok_one}

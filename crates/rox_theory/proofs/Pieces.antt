@@ -11,7 +11,7 @@ use Rattle.rox_grammar.specs.Names.{slice}
 use Rattle.rox_grammar.specs.Constructs.{IsCData}
 use Rattle.rox_grammar.specs.References.{entity_reference}
 use Rattle.rox_grammar.specs.Content.{Inclusion, DataByte, literal, line_ends, literals, is_verbatim, piece, last_part, then_entity, IsMisc, IsElement, empty, nest, Content, ends, run, cdata, misc, node}
-use Rattle.rox_grammar.specs.RunParts.{Parts}
+use Rattle.rox_grammar.proofs.RunParts.{Parts}
 use Rattle.rox_grammar.specs.Entities.{Entity, Includes, most_deep, included_in_main}
 use Rattle.rox_grammar.specs.Doctype.{Asked, Subset, no_more as no_item, space as subset_space, an_item as subset_item, skipped_declaration, an_entity as an_entity_declared, IsDoctype}
 use Rattle.rox_grammar.specs.Document.{Misc, no_misc, space, an_item, Prolog, DocumentTo, element_and_misc, ParseOf}
