@@ -9,7 +9,7 @@ use Rattle.rox_grammar.specs.Entities.{Entity}
 use Rattle.rox_grammar.specs.Doctype.{Request, Asked}
 use Rattle.rox_reading.specs.Lexical.{◌>>=◌}
 use Rattle.rox_reading.specs.Refusals.{Refusal, here, there, refused, lifted}
-use Rattle.rox_reading.specs.State.{State}
+use Rattle.rox_reading.specs.State.{State, start_state}
 use Rattle.rox_reading.specs.Doctype.{Reply, Dtd}
 use Rattle.rox_reading.specs.Answering.{Answered, Yields}
 use Rattle.rox_reading.specs.Stopping.{Stops}
@@ -18,7 +18,6 @@ use Rattle.rox_reading.proofs.Settling.{doctype_run, whole_run, before_doctype, 
 use Rattle.rox_reading.proofs.FaultsAlone.{alone_lifted, body_alone}
 use Rattle.rox_prolog.specs.Asking.{StopsBy}
 use Rattle.rox_values.specs.Refusals.{IsRefusal}
-use Rattle.rox_prolog.specs.PrologParts.{start_state}
 use Rattle.rox_build.specs.WholeTexts.{root_read}
 use Rattle.rox_values.specs.declared.parse_error.ParseError.{ParseError}
 use Rattle.rox_values.specs.declared.parse_error.ParseError.TheVariants as code

@@ -4,7 +4,7 @@ use Rattle.rox_grammar.specs.Entities.{Entity}
 use Rattle.rox_grammar.specs.Doctype.{Request}
 use Rattle.rox_grammar.specs.State.{root}
 use Rattle.rox_grammar.specs.TextStart.{after_bom}
-use Rattle.rox_reading.specs.State.{State}
+use Rattle.rox_reading.specs.State.{State, start_state}
 use Rattle.rox_reading.specs.WholeText as whole
 use Rattle.rox_scan.specs.declared.cursor.Cursor.{Cursor}
 use Rattle.rox_values.specs.DeclaredEntities.{AreDeclared}
@@ -13,7 +13,6 @@ use Rattle.rox_values.specs.declared.parse_error.ParseError.{ParseError}
 use Rattle.rox_prolog.specs.Asking.{AskOutcome}
 use Rattle.rox_builder.specs.BuilderState.{GoesOn, IsConsistent, IsInState, ParsesToWith}
 use Rattle.rox_prolog.specs.Requests.{Reply}
-use Rattle.rox_prolog.specs.PrologParts.{start_state}
 use Rattle.rox_build.specs.WholeTexts.{Finishes, IsWholeRead, root_read}
 use Rattle.rox_builder.specs.declared.builder.Builder.{Builder}
 

@@ -8,7 +8,7 @@ use Rattle.rox_grammar.specs.Doctype.{Request, Asked}
 use Rattle.rox_reading.specs.Lexical.{◌>>=◌}
 use Rattle.rox_reading.specs.Markup.{xml_decl_at}
 use Rattle.rox_reading.specs.Refusals.{here, lifted}
-use Rattle.rox_reading.specs.State.{State}
+use Rattle.rox_reading.specs.State.{State, start_state}
 use Rattle.rox_reading.specs.Doctype.{Reply, Dtd}
 use Rattle.rox_reading.specs.Answering.{Answered}
 use Rattle.rox_reading.specs.Stopping.{Stops}
@@ -20,7 +20,7 @@ use Rattle.rox_grammar.specs.declared.failure.Failure.{Failure}
 use Rattle.rox_prolog.specs.Asking.{StopsBy}
 use Rattle.rox_values.specs.Refusals as refusing
 use Rattle.rox_values.specs.Refusals.{of_failure}
-use Rattle.rox_prolog.specs.PrologParts.{start_state, beginning}
+use Rattle.rox_prolog.specs.PrologParts.{beginning}
 use Rattle.rox_theory.proofs.Basics.{bind_ok}
 use Rattle.rox_theory.proofs.FailedReadings.{bind_err}
 

@@ -2,8 +2,6 @@
 use Rattle.std.specs.Prelude.{◌≡◌, ℕ, suc, Bool, List, OnOk, Result, length}
 use Rattle.rox_grammar.specs.Doctype.{Request, Asked}
 use Rattle.rox_grammar.specs.FixedTexts.{at}
-use Rattle.rox_grammar.specs.Forest.{Nil}
-use Rattle.rox_grammar.specs.State.{root}
 use Rattle.rox_grammar.specs.TextStart.{after_bom}
 use Rattle.rox_grammar.specs.declared.failure.Failure.{Failure}
 use Rattle.rox_grammar.specs.declared.fault.Fault.{Fault}
@@ -13,7 +11,7 @@ use Rattle.rox_reading.specs.Doctype as reading
 use Rattle.rox_reading.specs.Doctype.{Asks, Dtd}
 use Rattle.rox_reading.specs.Lexical.{◌>>=◌}
 use Rattle.rox_reading.specs.Refusals.{lifted}
-use Rattle.rox_reading.specs.State.{State}
+use Rattle.rox_reading.specs.State.{State, start_state}
 use Rattle.rox_reading.specs.WholeText as whole
 use Rattle.rox_reading.specs.WholeText.{misc, prolog, doctype}
 use Rattle.rox_scan.specs.declared.cursor.Cursor.{Cursor}
@@ -24,10 +22,6 @@ use Rattle.rox_builder.specs.BuilderState.{GoesOn, IsInState, ScansTo}
 use Rattle.rox_builder.specs.declared.builder.Builder.{Builder}
 use Rattle.rox_prolog.specs.Asking.{AskOutcome, IsDoctypeRead, IsEntityRead, IsSubsetSoFar, ItemOutcome}
 use Rattle.rox_prolog.specs.Requests.{Reply}
-
--- The state in which nothing is read yet.
-abbrev pub start_state : ℕ → State
-start_state i = record { at = i; done = Nil; stack = root; openings_left = 255 }
 
 -- What is before a document type declaration.
 abbrev pub beginning : ℕ → List ℕ → Result State Fault

@@ -7,16 +7,15 @@ use Rattle.rox_grammar.specs.declared.fault.Fault.{Fault}
 use Rattle.rox_grammar.specs.declared.fault.Fault.TheVariants as fault
 use Rattle.rox_grammar.specs.declared.fault.Due.TheVariants as due
 use Rattle.rox_grammar.specs.declared.fault.Word.TheVariants as word
-use Rattle.rox_grammar.specs.Forest.{Forest, Nil}
+use Rattle.rox_grammar.specs.Forest.{Forest}
 use Rattle.rox_grammar.specs.Written.{Item}
 use Rattle.rox_grammar.specs.Names.{spaces_end}
 use Rattle.rox_grammar.specs.FixedTexts.{at}
 use Rattle.rox_grammar.specs.TextStart.{after_bom}
 use Rattle.rox_grammar.specs.Entities.{Replacement}
 use Rattle.rox_grammar.specs.Doctype.{Request, Asked, entry}
-use Rattle.rox_grammar.specs.State.{root}
 use Rattle.rox_reading.specs.Refusals.{Refusal, here}
-use Rattle.rox_reading.specs.State.{State}
+use Rattle.rox_reading.specs.State.{State, start_state}
 use Rattle.rox_reading.specs.Lexical.{byte_at}
 use Rattle.rox_reading.specs.Machine.{at_place}
 use Rattle.rox_reading.specs.Doctype.{Reply, Asks, Dtd, replies_of, with_state, EntityHead, entity_head_at, inner, outer, definition_at, answer_text, entity_step, subset, doctype_head_at, doctype_step}
@@ -136,20 +135,16 @@ module _ (limit : ℕ) (allow : Bool) (src : List ℕ) where
   abbrev pub whole_run : List Reply → Asks (Forest Item)
   whole_run rs = reading limit allow rs src
 
-  -- Where it begins.
-  abbrev pub start_at : ℕ → State
-  start_at i = record { at = i; done = Nil; stack = root; openings_left = 255 }
-
   pub prolog_stops : (f : Fault) → prolog src (after_bom src) ≡ Err f → Stops whole_run [] (here f)
   unfolding reading
   prolog_stops f h more = rw h refl
 
   module _ (i : ℕ) (is : prolog src (after_bom src) ≡ Ok i) where
-    pub misc_stops : (f : Fault) → misc limit (length src) src (start_at i) ≡ Err f → Stops whole_run [] (here f)
+    pub misc_stops : (f : Fault) → misc limit (length src) src (start_state i) ≡ Err f → Stops whole_run [] (here f)
     unfolding reading
     misc_stops f h more = rw (is, h) refl
 
-    module _ (s : State) (before : misc limit (length src) src (start_at i) ≡ Ok s) where
+    module _ (s : State) (before : misc limit (length src) src (start_state i) ≡ Ok s) where
       -- Where the document type declaration may begin.
       abbrev pub before_doctype : Dtd
       before_doctype = record { state = s; entities = []; replies = [] }

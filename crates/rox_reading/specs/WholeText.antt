@@ -4,17 +4,16 @@ use Rattle.std.specs.Prelude.{ℕ, zero, suc, ◌==◌, Bool, true, false, List,
 use Rattle.rox_grammar.specs.declared.fault.Fault.{Fault}
 use Rattle.rox_grammar.specs.declared.fault.Fault.TheVariants as fault
 use Rattle.rox_grammar.specs.declared.fault.Word.TheVariants as word
-use Rattle.rox_grammar.specs.Forest.{Forest, Nil}
+use Rattle.rox_grammar.specs.Forest.{Forest}
 use Rattle.rox_grammar.specs.Written.{Item}
 use Rattle.rox_grammar.specs.Names.{spaces_end}
 use Rattle.rox_grammar.specs.FixedTexts.{at}
 use Rattle.rox_grammar.specs.TextStart.{after_bom}
-use Rattle.rox_grammar.specs.Entities.{Entity, most_within}
+use Rattle.rox_grammar.specs.Entities.{Entity}
 use Rattle.rox_reading.specs.Lexical.{◌>>=◌}
 use Rattle.rox_reading.specs.Markup.{xml_decl_at}
 use Rattle.rox_reading.specs.Refusals.{Refusal, here, lifted}
-use Rattle.rox_grammar.specs.State.{root}
-use Rattle.rox_reading.specs.State.{State}
+use Rattle.rox_reading.specs.State.{State, start_state}
 use Rattle.rox_reading.specs.Machine.{comment_step, instruction_step, at_place, main_text, tag_step, drive}
 use Rattle.rox_reading.specs.Doctype.{Reply, Asks, asks_nothing, ◌>>>◌, Dtd, with_state, doctype_step}
 
@@ -56,6 +55,6 @@ doctype limit allow src d =
 unfoldable pub reading : ℕ → (allow : Bool) → List Reply → List ℕ → Asks (Forest Item)
 reading limit allow replies src =
     asks_nothing (lifted (prolog src (after_bom src))) >>> λ i.
-    asks_nothing (lifted (misc limit (length src) src (record { at = i; done = Nil; stack = root; openings_left = most_within }))) >>> λ s.
+    asks_nothing (lifted (misc limit (length src) src (start_state i))) >>> λ s.
     doctype limit allow src (record { state = s; entities = []; replies = replies }) >>> λ d.
     asks_nothing (body limit d.entities src d.state) >>> λ x. asks_nothing (lifted (finished src x))

@@ -2,11 +2,11 @@ use Rattle.std.proofs.Common.{ℕ, Bool, List, refl, sym, ap, ◌∙◌, length,
 use Rattle.std.proofs.lemmas.Result.{err_from_is_err_and}
 use Rattle.rox_grammar.specs.TextStart.{after_bom}
 use Rattle.rox_grammar.specs.Doctype.{Request, Asked}
+use Rattle.rox_reading.specs.State.{start_state}
 use Rattle.rox_prolog.specs.Requests.{Reply, Allows}
 use Rattle.rox_prolog.specs.Asking.{AreGiven, StopsBy}
 use Rattle.rox_build.specs.Built.{BuiltRefusal}
 use Rattle.rox_builder.specs.BuilderState.{IsInState}
-use Rattle.rox_prolog.specs.PrologParts.{start_state}
 use Rattle.rox_build.specs.WholeTexts.{IsBegun}
 use Rattle.rox_builder.specs.declared.builder.Builder.{Builder}
 use Rattle.rox_scan.specs.declared.cursor.Cursor.{Cursor}

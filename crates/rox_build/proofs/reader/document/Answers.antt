@@ -2,13 +2,13 @@ use Rattle.std.proofs.Common.{◌≡◌, ℕ, List, [], ◌++◌, Bool, Ok, leng
 use Rattle.std.proofs.lemmas.Grind.{common_steps}
 use Rattle.std.proofs.lemmas.Result.{err_from_is_err_and}
 use Rattle.rox_grammar.specs.State.{root}
-use Rattle.rox_reading.specs.State.{State}
+use Rattle.rox_reading.specs.State.{State, start_state}
 use Rattle.rox_reading.specs.Doctype.{Dtd, replies_of}
 use Rattle.rox_reading.specs.Answering.{left_with, Answered}
 use Rattle.rox_reading.specs.WholeText.{misc, doctype}
 use Rattle.rox_reading.proofs.Settling.{doctype_run, whole_run, whole_doctype_stops}
 use Rattle.rox_prolog.specs.Requests.{Allows}
-use Rattle.rox_prolog.specs.PrologParts.{start_state, beginning}
+use Rattle.rox_prolog.specs.PrologParts.{beginning}
 use Rattle.rox_prolog.proofs.Asking.{none_given, stops_by}
 use Rattle.rox_values.proofs.Lifting.{lifted_ok}
 use Rattle.rox_prolog.proofs.Rooted.{misc_open, doctype_open}

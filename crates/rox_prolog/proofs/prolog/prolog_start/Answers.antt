@@ -1,7 +1,7 @@
 use Rattle.std.proofs.Common.{ap, refl, rules, arith}
 use Rattle.std.proofs.lemmas.Grind.{common_steps}
 use Rattle.std.proofs.lemmas.Result.{err_from_is_err_and}
-use Rattle.rox_prolog.specs.PrologParts.{start_state}
+use Rattle.rox_reading.specs.State.{start_state}
 use Rattle.rox_prolog.proofs.Prologs.{declaration_fails, declaration_read}
 use Rattle.rox_prolog.proofs.Items.{sees_at}
 use Rattle.rox_prolog.proofs.prolog.prolog_start.Goals as goal
