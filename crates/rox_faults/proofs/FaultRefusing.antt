@@ -15,7 +15,7 @@ use Rattle.rox_grammar.specs.Entities.{Replacement, Entity, text_of, Spends, no_
 use Rattle.rox_grammar.specs.Doctype.{Asked}
 use Rattle.rox_grammar.proofs.CountForms.{limits_counted}
 use Rattle.rox_grammar.specs.Document.{DocumentTo, Misc, no_misc, an_item, ParseOf, IsWithinLimits, Permits, PrologTo}
-use Rattle.rox_theory.specs.ParseParts.{MayHaveDoctype, doctype, no_doctype, ParseParts}
+use Rattle.rox_theory.specs.ParseParts.{MayHaveDoctype, doctype, no_doctype}
 use Rattle.rox_grammar.specs.State as grammar
 use Rattle.rox_grammar.specs.State.{root}
 use Rattle.rox_grammar.specs.ContentPoints.{is_main, MayOpen, RootBegins, ContentPoint, begins, goes, enters}
@@ -41,7 +41,7 @@ use Rattle.rox_faults.proofs.FaultInDoctype.{in_doctype_apart}
 use Rattle.rox_faults.proofs.FaultMisc.{misc_front, misc_at, before_end, other_at, one_misc}
 use Rattle.rox_faults.proofs.FaultWay.{OpensAt}
 use Rattle.rox_faults.proofs.FaultNever.{Parsed, never, fault_over, no_doctype_there}
-use Rattle.rox_theory.proofs.ParseParts.{document_parts, prolog_parts, parts}
+use Rattle.rox_theory.proofs.ParseParts.{ParseParts, document_parts, prolog_parts, parts}
 
 -- What is before a place.
 place_front : (opens : ℕ → Inclusion) (es : List Entity) (text : List ℕ) (Root : ℕ → Forest Item → Type 0) (k open_around b : ℕ) (src : List ℕ) (s : grammar.State) → ContentPoint opens es text Root k open_around src b s → (p : ℕ) × (items : Forest Item) × Root p items

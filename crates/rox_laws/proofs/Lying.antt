@@ -10,7 +10,7 @@ use Rattle.rox_grammar.specs.Content.{Inclusion}
 use Rattle.rox_grammar.specs.Entities.{Replacement, Entity, text_of}
 use Rattle.rox_grammar.specs.Doctype.{Request, Asked, GivesReplacement, IsDefinition, entry, Subset, IsDoctype}
 use Rattle.rox_grammar.specs.Doctype as doctype
-use Rattle.rox_theory.specs.ParseParts.{MayHaveDoctype, PrologParts}
+use Rattle.rox_theory.specs.ParseParts.{MayHaveDoctype}
 use Rattle.rox_grammar.specs.State.{State}
 use Rattle.rox_grammar.specs.ContentPoints.{ContentPoint, ValuePart}
 use Rattle.rox_grammar.specs.ContentPoints as places
@@ -20,7 +20,7 @@ use Rattle.rox_grammar.specs.FaultsWithDoctype.{InDoctype, RefusalOf}
 use Rattle.rox_grammar.specs.FaultsWithDoctype as refused
 use Rattle.rox_laws.specs.Sources.{IsLiteralIn, IsAnswerIn}
 use Rattle.rox_theory.proofs.DoctypeParts.{declaration_parts}
-use Rattle.rox_theory.proofs.ParseParts.{prolog_parts}
+use Rattle.rox_theory.proofs.ParseParts.{PrologParts, prolog_parts}
 
 -- ---- of an entity
 

@@ -1,9 +1,8 @@
 -- The result of a reading that asks for external entities, whatever replies follow those that it takes.
-use Rattle.std.specs.Prelude.{◌≡◌, ℕ, List, ◌++◌, Ok, Err}
+use Rattle.std.specs.Prelude.{◌≡◌, ℕ, List, ◌++◌, Ok}
 use Rattle.rox_grammar.specs.Doctype.{Asked}
 use Rattle.rox_reading.specs.Refusals.{Refusal, here, there, refused}
 use Rattle.rox_reading.specs.Doctype.{Reply, Asks, Dtd, replies_of, subset}
-use Rattle.rox_reading.specs.Stopping.{Stops}
 
 -- The state `d` with these replies left.
 abbrev pub left_with : List Reply → Dtd → Dtd
@@ -26,15 +25,6 @@ abbrev pub IsTextRefusal : Refusal → Type 0
 IsTextRefusal (here f) = Unit {0}
 IsTextRefusal (there source f) = Unit {0}
 IsTextRefusal (refused request at message) = ⊥
-
--- Each reading that takes these replies has this result, whatever replies follow.
-abbrev pub Settled : (run : List Reply → Asks Dtd) → Asks Dtd → Type 0
-Settled run (asked, Ok d) = Answered run asked d
-Settled run (asked, Err e) = Stops run asked e
-
-abbrev pub SettledWhole : {A : Type 0} → (run : List Reply → Asks A) → Asks A → Type 0
-SettledWhole run (asked, Ok x) = Yields run asked x
-SettledWhole run (asked, Err e) = Stops run asked e
 
 -- The items of the declaration that starts at `i`: these requests are made, and then at most `n` more items are read, from the
 -- state `d` on.

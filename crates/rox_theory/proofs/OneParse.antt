@@ -13,7 +13,7 @@ use Rattle.rox_grammar.specs.Doctype.{Asked, Subset, IsDoctype, no_more, skipped
 use Rattle.rox_grammar.specs.Doctype as dtd
 use Rattle.rox_grammar.specs.Document.{Misc, no_misc, space, an_item, ParseOf, IsTreeOf, Permits}
 use Rattle.rox_grammar.specs.Counts.{attribute_count, pairs}
-use Rattle.rox_theory.specs.ParseParts.{MayHaveDoctype, doctype, no_doctype, ParseParts}
+use Rattle.rox_theory.specs.ParseParts.{MayHaveDoctype, doctype, no_doctype}
 use Rattle.rox_grammar.specs.Tree.{Node, document_tree}
 use Rattle.rox_grammar.specs.WellNamed.{AreWellNamed}
 use Rattle.rox_grammar.specs.State.{root}
@@ -28,7 +28,7 @@ use Rattle.rox_theory.proofs.FailedReadings.{ok_one}
 use Rattle.rox_theory.proofs.Whole.{asks_nothing_there}
 use Rattle.rox_theory.proofs.Once.{element_once}
 use Rattle.rox_theory.proofs.Around.{Stops, DoctypesAgree, none_agree, element_stops, end_stops, begins_stop, dtd_begins, misc_complete, prolog_complete}
-use Rattle.rox_theory.proofs.ParseParts.{tree_parts, parts}
+use Rattle.rox_theory.proofs.ParseParts.{ParseParts, tree_parts, parts}
 
 -- The same answers are the same replies.
 pub same_replies : (a b : List Asked) → map (λ x. x.answer) a ≡ map (λ x. x.answer) b → replies_of a ≡ replies_of b

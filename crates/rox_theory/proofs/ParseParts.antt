@@ -5,11 +5,38 @@ use Rattle.rox_grammar.specs.Written.{Item}
 use Rattle.rox_grammar.specs.Content.{Inclusion, IsElement}
 use Rattle.rox_grammar.specs.WellNamed.{AreWellNamed}
 use Rattle.rox_grammar.specs.Tree.{Node, document_tree}
-use Rattle.rox_grammar.specs.Entities.{Entity}
+use Rattle.rox_grammar.specs.Entities.{Entity, most_within, included_in_main}
 use Rattle.rox_grammar.specs.Doctype.{Asked}
 use Rattle.rox_grammar.specs.Document.{Misc, Prolog, with_doctype, without_doctype, PrologTo, DocumentTo, element_and_misc, ParseOf, IsWithinLimits, IsTreeOf, document}
-use Rattle.rox_theory.specs.ParseParts.{MayHaveDoctype, doctype, no_doctype, PrologParts, ParseParts}
+use Rattle.rox_theory.specs.ParseParts.{MayHaveDoctype, doctype, no_doctype}
 use Rattle.rox_reading.proofs.Forests.{join_assoc, join-nil}
+
+-- A prolog up to `p`, in parts.
+pub record PrologParts (text : List ℕ) (dtd : Bool) (asked : List Asked) (es : List Entity) (p : ℕ) (items : Forest Item) : Type 0 where
+  pub begun : ℕ
+  pub before : Forest Item
+  pub ahead : PrologTo text begun before
+  pub nodes : Forest Item
+  pub doctype : MayHaveDoctype text begun p dtd nodes asked es
+  pub all : items ≡ join before nodes
+
+-- A parse, in parts.
+pub record ParseParts (src : List ℕ) (dtd : Bool) (asked : List Asked) (tree : Forest Item) : Type 0 where
+  pub begun : ℕ
+  pub before : Forest Item
+  pub prolog : PrologTo src begun before
+  pub start : ℕ
+  pub nodes : Forest Item
+  pub entities : List Entity
+  pub doctype : MayHaveDoctype src begun start dtd nodes asked entities
+  pub end : ℕ
+  pub openings_left : ℕ
+  pub one : Forest Item
+  pub element : IsElement true (included_in_main entities) src start end most_within openings_left one
+  pub after : Forest Item
+  pub misc_after : Misc src end (length src) after
+  pub is_tree : tree ≡ join before (join nodes (join one after))
+  pub well_named : AreWellNamed [] tree
 
 pub prolog_parts : (src : List ℕ) (p : ℕ) (dtd : Bool) (items : Forest Item) (asked : List Asked) (es : List Entity) → Prolog src p dtd items asked es → PrologParts src dtd asked es p items
 prolog_parts src p dtd items asked es (with_doctype i j before own after _ _ ahead is behind) =

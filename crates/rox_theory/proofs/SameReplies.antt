@@ -7,23 +7,31 @@ use Rattle.rox_grammar.specs.declared.fault.Fault.TheVariants as fault
 use Rattle.rox_grammar.specs.declared.fault.Due.TheVariants as due
 use Rattle.rox_grammar.specs.declared.fault.Word.TheVariants as word
 use Rattle.rox_grammar.specs.FixedTexts.{at}
-use Rattle.rox_grammar.specs.Forest.{Forest, Nil}
+use Rattle.rox_grammar.specs.Forest.{Forest}
 use Rattle.rox_grammar.specs.Written.{Item}
 use Rattle.rox_grammar.specs.Names.{spaces_end}
 use Rattle.rox_grammar.specs.TextStart.{after_bom}
 use Rattle.rox_grammar.specs.Entities.{Replacement}
 use Rattle.rox_grammar.specs.Doctype.{Request, Asked, entry}
-use Rattle.rox_grammar.specs.State.{root}
 use Rattle.rox_reading.specs.Refusals.{Refusal, here, lifted}
 use Rattle.rox_reading.specs.Lexical.{byte_at}
-use Rattle.rox_reading.specs.State.{State}
+use Rattle.rox_reading.specs.State.{State, start_state}
 use Rattle.rox_reading.specs.Machine.{comment_step, instruction_step, at_place}
 use Rattle.rox_reading.specs.Doctype.{Reply, replies_of, Asks, asks_nothing, ◌>>>◌, Dtd, with_state, Definition, outer, answer_text, defined, entity_step, skipped_declaration, subset_end, subset, doctype_head_at, doctype_step}
 use Rattle.rox_reading.specs.WholeText.{misc, body, finished, prolog, doctype, reading}
-use Rattle.rox_reading.specs.Answering.{left_with, having_asked, Answered, Yields, Settled, SettledWhole}
+use Rattle.rox_reading.specs.Answering.{left_with, having_asked, Answered, Yields}
 use Rattle.rox_reading.specs.Stopping.{with_refusal, Stops}
 use Rattle.rox_reading.proofs.Answering.{replies_then}
 use Rattle.rox_theory.proofs.Asking.{asks_none}
+
+-- Each reading that takes these replies has this result, whatever replies follow.
+abbrev pub Settled : (run : List Reply → Asks Dtd) → Asks Dtd → Type 0
+Settled run (asked, Ok d) = Answered run asked d
+Settled run (asked, Err e) = Stops run asked e
+
+abbrev pub SettledWhole : {A : Type 0} → (run : List Reply → Asks A) → Asks A → Type 0
+SettledWhole run (asked, Ok x) = Yields run asked x
+SettledWhole run (asked, Err e) = Stops run asked e
 
 -- A run gives the same for the same answers.
 abbrev Same : (List Reply → Asks Dtd) → Type 0
@@ -139,7 +147,7 @@ pub reading_same : (limit : ℕ) (allow : Bool) (src : List ℕ) → SameWhole (
 unfolding reading
 reading_same limit allow src =
     same_behind_whole (lifted (prolog src (after_bom src))) _ (λ i.
-    same_behind_whole (lifted (misc limit (length src) src (record { at = i; done = Nil; stack = root; openings_left = 255 }))) _ (λ s.
+    same_behind_whole (lifted (misc limit (length src) src (start_state i))) _ (λ s.
     same_body s))
   where
     same_body : (s : State) → SameWhole (λ rs. doctype limit allow src (record { state = s; entities = []; replies = rs }) >>> λ d. asks_nothing (body limit d.entities src d.state) >>> λ x. asks_nothing (lifted (finished src x)))

@@ -15,7 +15,7 @@ use Rattle.rox_grammar.proofs.CountForms.{limits_counted, counts_limited}
 use Rattle.rox_grammar.specs.Document.{Misc, ParseOf, IsWithinLimits, Permits}
 use Rattle.rox_grammar.specs.State.{root}
 use Rattle.rox_reading.specs.Refusals.{Refusal, here, there, refused}
-use Rattle.rox_reading.specs.Answering.{IsTextRefusal, SettledWhole}
+use Rattle.rox_reading.specs.Answering.{IsTextRefusal}
 use Rattle.rox_reading.specs.State.{State}
 use Rattle.rox_reading.specs.Machine.{tag_step, drive, main_text}
 use Rattle.rox_reading.specs.Doctype.{Reply, replies_of, AreTextReplies, Asks, Dtd}
@@ -36,11 +36,10 @@ use Rattle.rox_theory.proofs.StepLemmas.{tag_read, read_tag}
 use Rattle.rox_theory.proofs.Chains.{Drives, drive_sound, drive_complete, drives_back, root_drives}
 use Rattle.rox_theory.proofs.Derivations.{root_element}
 use Rattle.rox_theory.proofs.Tops.{tops_merged, parse_merged}
-use Rattle.rox_theory.proofs.SameReplies.{reading_same}
+use Rattle.rox_theory.proofs.SameReplies.{SettledWhole, reading_same}
 use Rattle.rox_theory.proofs.Asking.{ok_lifted, nothing_ok, nothing_lifted_ok, asks_none, asking_ok}
 use Rattle.rox_theory.proofs.Around.{DoctypesAgree, element_stops, end_stops, none_agree, begins_stop, dtd_begins, ends_cut, element_ends, bom_cut, misc_sound, misc_complete, prolog_sound, prolog_complete, prolog_cut}
-use Rattle.rox_theory.specs.ParseParts.{ParseParts}
-use Rattle.rox_theory.proofs.ParseParts.{parts, parsed}
+use Rattle.rox_theory.proofs.ParseParts.{ParseParts, parts, parsed}
 
 -- An element is a node at least.
 element_size : (src : List ℕ) (i j b c : ℕ) (es : List Entity) (one : Forest Item) → IsElement true (included_in_main es) src i j b c one → 1 ≤ size one
