@@ -1,5 +1,5 @@
 -- Attributes that the fast path reads and puts into their table: their values refer to no declared entity.
-use Rattle.std.specs.Prelude.{◌≡◌, ℕ, ◌+◌, ◌<◌, ◌≤◌, ◌^◌, Bool, true, false, List, Option, Some, Ok, drop, length, map, slice_index, IfSome, IfNone, IsCharBoundary}
+use Rattle.std.specs.Prelude.{◌≡◌, ℕ, ◌+◌, ◌<◌, ◌≤◌, ◌^◌, true, false, List, Option, Some, Ok, drop, length, map, slice_index, IfSome, IfNone, IsCharBoundary}
 use Rattle.std.specs.List.{AllByRecursion}
 use Rattle.rox_grammar.specs.Written.{NamespaceDecl, is_namespace_decl, Name}
 use Rattle.rox_grammar.specs.Entities.{Entity}
@@ -46,14 +46,14 @@ pub record IsAttributeNamespace (t : ElementTables) (n : ℕ) (name : Name) (s :
       → attribute_uri (map namespace_view t.namespaces.items.items) s ≡ tree.attribute_namespace ds name
   pub known : (ds : List NamespaceDecl) → FindsBinding (map namespace_view t.namespaces.items.items) (few_in t n) t.present ds → is_known ds name ≡ true
 
--- The attribute `a` is read at `i`, and its value does not depend on context.
+-- The attribute `a` is read at `i` in the main text, whatever is declared.
 pub record IsPlainAttribute (src : List ℕ) (i : ℕ) (a : UnresolvedAttribute) : Type 0 where
   pub value_end : ℕ
   pub read : attribute_at src i ≡ Ok (record { start = i; name = name_view a.name; name_end = a.name_end; value_start = a.value_start; value_end = value_end }, a.end)
   pub start : a.start ≡ i
   pub end : a.end ≡ value_end + 1
-  pub value : (main : Bool) (es : List Entity) (opener : ValueInclusion) (openings_left : ℕ)
-      → value_at main es opener src a.value_start value_end openings_left ≡ Ok (record { value = storage_bytes a.value; borrowed = is_borrowed a.value }, openings_left)
+  pub value : (es : List Entity) (opener : ValueInclusion) (openings_left : ℕ)
+      → value_at true es opener src a.value_start value_end openings_left ≡ Ok (record { value = storage_bytes a.value; borrowed = is_borrowed a.value }, openings_left)
   pub cut : IsCharBoundary src a.end
   pub onward : i < a.end
   -- The local name fits before `a.name_end`, and `=` and a quote fit before the value.

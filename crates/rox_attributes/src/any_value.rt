@@ -1,6 +1,6 @@
-//! Any attribute values by the fast path, also those with references to characters or white space other than spaces. Only
-//! values that do not depend on context are read (XML 1.0 sections 3.3.3, 4.1 and 4.6). A predefined entity gives its character
-//! whether or not it is declared too.
+//! Any attribute values of the main text by the fast path, also those with references to characters or white space other than
+//! spaces (XML 1.0 sections 3.3.3, 4.1 and 4.6). A value that refers to an entity is not read, unless that is predefined: then it
+//! gives its character whether or not it is declared too.
 
 ghost use Rattle.std.specs.Prelude.{◌≤◌, IfSome, true, length, string_bytes, ◌<◌, false, ◌≡◌, ◌==◌, slice_index};
 ghost use Rattle.rox_bytes.specs.ByteSets.{EndsSet, is_stretch_byte};
@@ -127,7 +127,7 @@ pub struct AnyValue<'input> {
 }
 
 /// Returns the value that starts at `start`, after the quote `quote`: a slice of the text, or an owned text if it needs a
-/// replacement. Returns `None` if it is not valid, if it depends on context, or if memory is refused, which sets `lacking`.
+/// replacement. Returns `None` if it is not valid, if it refers to an entity, or if memory is refused, which sets `lacking`.
 #[inline(always)]
 pub fn any_value<'input>(
     alloc: Global,

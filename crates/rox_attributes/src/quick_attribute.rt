@@ -62,8 +62,8 @@ fn name_and_value_start<'input>(
     Some((name, from))
 }
 
-/// Returns the attribute at `place`, however it is written, or `None` if there is none. Its value must not depend on context, and
-/// it is owned if it needs a replacement. Also returns `None` if memory is refused, which sets `lacking`.
+/// Returns the attribute at `place`, however it is written, or `None` if there is none. Its value must not refer to an entity that
+/// is not predefined, and it is owned if it needs a replacement. Also returns `None` if memory is refused, which sets `lacking`.
 #[inline(always)]
 fn any_attribute<'input>(
     alloc: Global,
@@ -134,8 +134,8 @@ fn namespace_in(
     prefix_namespace(elements, scope, name.prefix, near)
 }
 
-/// Puts the attribute at `place`, however it is written, after those of its tag, which `seen` records. Its value must not depend on
-/// context. Returns the offset after it, or 0 with the table unchanged. A declaration is not put.
+/// Puts the attribute at `place`, however it is written, after those of its tag, which `seen` records. Its value must not refer to
+/// an entity that is not predefined. Returns the offset after it, or 0 with the table unchanged. A declaration is not put.
 #[cold]
 #[inline(never)]
 fn put_any_attribute<'input>(

@@ -30,14 +30,15 @@ use rox_values::entities::Entities;
 use rox_values::parse_error::ParseError;
 use std::alloc::{AllocError, Global};
 
-/// Reads the start tag of the root element, from its `<`.
+/// Reads the start tag of the root element, from its `<`. The text is the main text.
 #[inline(always)]
 fn root_start<'input>(
     cursor: &mut Cursor<'input>,
     builder: &mut Builder<'input>,
     context: Context<'_, 'input>,
 ) -> Result<(), ParseError<'input>>
-    requires { MayReadTag cursor.old builder.old }
+    requires tag { MayReadTag cursor.old builder.old }
+    requires main { context.main ≡ true }
     ensures { ParsesAs machine.tag_step context.entry cursor.old cursor.new builder.old builder.new
         result }
 {

@@ -54,7 +54,7 @@ pub record ReadsBelow (b m : Builder) (above : List NamespaceDecl) (src : List �
   pub same : KeepsOthers b m
   pub read : IsPlainTag b.tables m.tables above src i t.end t.tag
 
-any_values : Values
+abbrev any_values : Values
 any_values = record { main = true; entities = []; opener = λ text i openings_left. Ok ([], openings_left) }
 
 -- it may be opened
@@ -62,7 +62,7 @@ pub may_open : (b m : Builder) (above : List NamespaceDecl) (src : List ℕ) (i 
     → vec_len m.opened < vec_capacity m.opened → MayPutOpen m row src i t.tag
 may_open b m above src i row t g parent ready start depth =
     let x = g.read in
-    let named = tag_is_named any_values fault.NoRootNode _ _ _ src i 0 _ _ t.tag g.utf8 g.here (x.read any_values fault.NoRootNode 0) x.tagged.name x.tagged.name_end x.starts in
+    let named = tag_is_named any_values fault.NoRootNode _ _ _ src i 0 _ _ t.tag g.utf8 g.here (x.read any_values refl fault.NoRootNode 0) x.tagged.name x.tagged.name_end x.starts in
     record { row = record { ready = ready; parent = parent; start = start }; depth = depth; named = named; narrow = omega (arith, g.short, named.within, x.starts) }
 
 -- and put, whether it is empty or not
@@ -76,7 +76,7 @@ ready_too most b m k h = record { room = rw k.nodes h.room; few = rw k.limit h.f
 
 pub leaf_reads : (b m u : Builder) (above : List NamespaceDecl) (src : List ℕ) (i : ℕ) (t : PlainTag) → ReadsBelow b m above src i t → t.tag.empty ≡ true → PutsLeaf m u i t.end (kind.Element t.tag.element) → ReadsAt tag_step src i t.end b u
 leaf_reads b m u above src i t g empty p = record {
-  value = λ _ context end s here behind start stop h.
+  value = λ _ context end s here behind main start stop h.
       let old = b.tables in
       let new = m.tables in
       let x = g.read in
@@ -88,7 +88,7 @@ leaf_reads b m u above src i t g empty p = record {
       let shows = grown_shows end s.stack s.done b m h.shows g.fine.sound g.fine.elements (grown_by old new t.tag (scope_of s.stack) x.tag tg) g.same.nodes g.same.opened g.same.pending g.same.joined in
       let node : IsNode new (scope_of s.stack) i e (kind.Element t.tag.element) (Element s.at e x.tag) =
       subst (λ (n : ℕ). IsNode new (scope_of s.stack) i e (kind.Element t.tag.element) (Element n e x.tag)) at (is_node old new t.tag (scope_of s.stack) x.tag i e tg) in
-      rw (tag_is context src s i cut _ _ _ x.tag t.tag.empty s.openings_left e at refl sc h.attributes h.namespaces (x.read context.values cut s.openings_left)
+      rw (tag_is context src s i cut _ _ _ x.tag t.tag.empty s.openings_left e at refl sc h.attributes h.namespaces (x.read context.values main cut s.openings_left)
       ∙ ap (λ (y : Bool). lifted (opened_by context.limit s x.tag y s.openings_left e)) empty)
       (subst (λ (n : ℕ). ScansTo context.limit end (Ok tt) behind u (lifted (opened_by context.limit s x.tag true s.openings_left n))) stop
       (empty_stepped context.limit end s.openings_left s behind old new m.nodes_limit u (Ok tt) t.tag (scope_of s.stack) x.tag tg h.namespaces h.attributes (g.same.limit ∙ h.limit_is) (p.adds.kept.openings_left ∙ g.same.openings_left ∙ h.openings_left_is) p.adds.kept.tables p.adds.kept.limit
@@ -102,7 +102,7 @@ leaf_reads b m u above src i t g empty p = record {
 
 pub open_reads : (b m u : Builder) (above : List NamespaceDecl) (src : List ℕ) (i : ℕ) (t : PlainTag) → ReadsBelow b m above src i t → t.tag.empty ≡ false → PutsOpen m u src i t.tag → ReadsAt tag_step src i t.end b u
 open_reads b m u above src i t g opens p = record {
-  value = λ _ context end s here behind start stop h.
+  value = λ _ context end s here behind main start stop h.
       let old = b.tables in
       let new = m.tables in
       let x = g.read in
@@ -113,7 +113,7 @@ open_reads b m u above src i t g opens p = record {
       let cut = cut_off context.values.main s.stack in
       let shows = grown_shows end s.stack s.done b m h.shows g.fine.sound g.fine.elements (grown_by old new t.tag (scope_of s.stack) x.tag tg) g.same.nodes g.same.opened g.same.pending g.same.joined in
       let adds = p.adds.value end e s.openings_left s x.tag shows (sym at) (is_opening old new t.tag (scope_of s.stack) x.tag i tg x.starts) in
-      rw (tag_is context src s i cut _ _ _ x.tag t.tag.empty s.openings_left e at refl sc h.attributes h.namespaces (x.read context.values cut s.openings_left)
+      rw (tag_is context src s i cut _ _ _ x.tag t.tag.empty s.openings_left e at refl sc h.attributes h.namespaces (x.read context.values main cut s.openings_left)
       ∙ ap (λ (y : Bool). lifted (opened_by context.limit s x.tag y s.openings_left e)) opens)
       (subst (λ (n : ℕ). ScansTo context.limit end (Ok tt) behind u (lifted (opened_by context.limit s x.tag false s.openings_left n))) stop
       (open_stepped context.limit end s.openings_left s behind old new m.nodes_limit u (Ok tt) t.tag (scope_of s.stack) x.tag tg h.namespaces h.attributes (g.same.limit ∙ h.limit_is) (p.adds.kept.openings_left ∙ g.same.openings_left ∙ h.openings_left_is) p.adds.kept.tables p.adds.kept.limit
@@ -126,7 +126,7 @@ open_reads b m u above src i t g opens p = record {
       let x = g.read in
       fine_more (Ok tt) m.tables m.opened.items u src t.tag
       (rw g.same.opened (fine_by b.tables m.tables t.tag _ x.tag b.opened.items x.tagged g.fine)) p.adds.kept.tables p.adds.opened x.tagged.element.scope_within x.tagged.once (namespace_by b.tables m.tables t.tag _ x.tag x.tagged)
-      (λ q by. opened_named any_values fault.NoRootNode _ _ _ src i 0 _ _ t.tag q g.utf8 g.here (x.read any_values fault.NoRootNode 0) x.tagged.name x.tagged.name_end x.starts by);
+      (λ q by. opened_named any_values fault.NoRootNode _ _ _ src i 0 _ _ t.tag q g.utf8 g.here (x.read any_values refl fault.NoRootNode 0) x.tagged.name x.tagged.name_end x.starts by);
 }
 
 -- and where it was put, the construct was read

@@ -6,9 +6,9 @@ ghost use Rattle.rox_builder.specs.Outcomes.{MayStep};
 ghost use Rattle.rox_sections.specs.PlainOutcomes.{MayReadPlain, ReadsRows, ReadsStep, StandsApart};
 ghost use Rattle.rox_builder.specs.BuilderState.{IsReady, IsConsistent, IsReadyTo};
 
-use crate::quick_elements::{close_element, element, element_in_scope, element_of_name};
+use crate::quick_elements::{close_element, element, element_of_name};
 use rox_builder::builder::Builder;
-use rox_bytes::byte_set::{PartByte, find_run, part_end};
+use rox_bytes::byte_set::{PartByte, find_run};
 use rox_bytes::runs::{after_byte, is_at};
 use rox_scan::cursor::Cursor;
 use rox_sections::quick_data::put_character_data;
@@ -22,7 +22,7 @@ fn stands_apart(cursor: &Cursor<'_>, builder: &Builder<'_>) -> bool
     is_at(cursor.text, cursor.pos, b'<') || !builder.is_text_open()
 }
 
-/// Reads what `<` starts, if it is plain and finds room. Returns false if nothing was read.
+/// Reads what `<` starts in the main text, if it is plain and finds room. Returns false if nothing was read.
 #[inline]
 #[tactic(auto, unfolding(rox_reading::specs::Machine::step))]
 fn quick_markup<'input>(
@@ -31,8 +31,8 @@ fn quick_markup<'input>(
     open_around: usize,
 ) -> bool
     requires { MayReadPlain cursor.old builder.old }
-    ensures reads { ReadsStep (λ k. k.open_around ≡ open_around) cursor.old cursor.new builder.old
-        builder.new result }
+    ensures reads { ReadsStep (λ k. (k.open_around ≡ open_around) × (k.values.main ≡ true))
+        cursor.old cursor.new builder.old builder.new result }
     ensures ready { result ≡ true → (most : ℕ) → IsReadyTo most builder.old
         → IsReadyTo most builder.new }
     ensures apart { result ≡ true → StandsApart cursor.new builder.new }
@@ -72,8 +72,8 @@ fn quick_markup<'input>(
     true
 }
 
-/// Reads the constructs from the cursor on inside the root element, as long as they are plain. It stops when fewer than two of
-/// `rows` rows are left. Returns whether any was read.
+/// Reads the constructs from the cursor on inside the root element, as long as they are plain, if the text is the main text. It
+/// stops when fewer than two of `rows` rows are left. Returns whether any was read.
 #[inline(always)]
 pub fn quick_constructs<'input>(
     cursor: &mut Cursor<'input>,
@@ -87,6 +87,9 @@ pub fn quick_constructs<'input>(
     ensures { ReadsRows open_around main cursor.old cursor.new builder.old builder.new result }
 {
     let mut here = *cursor;
+    if !main {
+        return false;
+    }
     if cursor.text.len() > MOST_BYTES {
         return false;
     }
@@ -106,7 +109,7 @@ pub fn quick_constructs<'input>(
             break;
         }
         if bytes[here.pos] != b'<' {
-            if !put_character_data(&mut here, builder, main) {
+            if !put_character_data(&mut here, builder) {
                 break;
             }
         }
@@ -118,8 +121,8 @@ pub fn quick_constructs<'input>(
     here.pos > from
 }
 
-/// Like `quick_markup`, but in a replacement text. Few replacement texts have tags, so each start tag takes the slower path here.
-/// The fast one is then in line in one place only, `quick_constructs`.
+/// Like `quick_markup`, but in a replacement text, where it reads no start tag: few replacement texts have tags, and the values of
+/// attributes are read in another way there.
 #[tactic(auto, unfolding(rox_reading::specs::Machine::step))]
 fn markup_of_text<'input>(
     cursor: &mut Cursor<'input>,
@@ -138,18 +141,10 @@ fn markup_of_text<'input>(
     if next == b'/' {
         return close_element(cursor, builder, around);
     }
-    let text = cursor.text;
-    let start = cursor.pos;
-    let stop = if next <= b'?' {
-        put_delimited(text, start, builder)
-    } else {
-        element_in_scope(
-            text,
-            start,
-            builder,
-            part_end(text, after_byte(text, start, b'<')),
-        )
-    };
+    if next > b'?' {
+        return false;
+    }
+    let stop = put_delimited(cursor.text, cursor.pos, builder);
     if stop > MOST_BYTES {
         return false;
     }

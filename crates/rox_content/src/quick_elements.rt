@@ -6,7 +6,7 @@ ghost use Rattle.rox_reading.specs.Machine as machine;
 ghost use Rattle.rox_reading.specs.Refusals.{lifted};
 ghost use Rattle.rox_builder.specs.Outcomes.{ReadsAt};
 ghost use Rattle.rox_builder.specs.Readiness.{IsApart, HasRoom};
-ghost use Rattle.rox_sections.specs.PlainOutcomes.{MayReadEnd, MayReadFirst, MayReadPart, ReadsIf, any_context};
+ghost use Rattle.rox_sections.specs.PlainOutcomes.{MayReadEnd, MayReadFirst, MayReadPart, ReadsIf};
 ghost use Rattle.rox_content.specs.PlainElements.{MayPutElement, MayReadHead, PutsElement};
 ghost use Rattle.rox_bytes.specs.ByteSets.{StopsSet, is_part_byte};
 
@@ -68,7 +68,7 @@ pub fn element_of_name<'input>(
     requires near { StopsSet is_part_byte cursor.old.text.now (cursor.old.pos + 1) near }
     requires letter { 63 < slice_index cursor.old.text.now (cursor.old.pos + 1) }
     requires room { HasRoom cursor.old.text.now builder.old }
-    ensures { ReadsIf IsApart any_context machine.tag_step cursor.old cursor.new builder.old
+    ensures { ReadsIf IsApart (λ k. k.values.main ≡ true) machine.tag_step cursor.old cursor.new builder.old
         builder.new result }
 {
     // Most tags have more than a name, so this is tested first.
@@ -182,7 +182,7 @@ fn element_of_head_or_repeating<'input>(
 /// Reads a start tag, from its `<` at `start`, if it is plain. The first part of its name ends at `part`. Returns the offset
 /// after it, or `NOT_READ`. It is out of line: few tags have a name that `element` does not read.
 #[inline(never)]
-pub fn element_in_scope<'input>(
+fn element_in_scope<'input>(
     text: &'input str,
     start: usize,
     builder: &mut Builder<'input>,

@@ -57,7 +57,7 @@ ready_kept most b u k h = record { room = rw k.nodes h.room; few = rw k.limit h.
 -- what is read where the builder holds equal rows
 pub reads_kept : (read : machine.Context → List ℕ → State → Result State Refusal) (src : List ℕ) (i j : ℕ) (b u after : Builder) → KeepsState b u → ReadsAt read src i j u after → ReadsAt read src i j b after
 reads_kept read src i j b u after k r = record {
-  value = λ less context end s here behind start stop h. r.value less context end s here behind start stop (state_kept context.limit end s here here b u h refl k);
+  value = λ less context end s here behind main start stop h. r.value less context end s here behind main start stop (state_kept context.limit end s here here b u h refl k);
   other = λ no. keeps_on b u after k (r.other no);
   cut = r.cut;
   ready = λ less most h. r.ready less most (ready_kept most b u k h);

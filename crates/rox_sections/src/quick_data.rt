@@ -106,21 +106,14 @@ fn put_line_end<'input>(text: &'input str, start: usize, builder: &mut Builder<'
     put_line(text, start, end, shared, builder)
 }
 
-/// Like `put_line_end`, but only if the text is the main text. Returns whether character data was read. Whether a CR is at the
-/// cursor is tested out of line: a byte that is tested after a search would take the register of the text.
+/// Like `put_line_end`, but moves the cursor. Returns whether character data was read. Whether a CR is at the cursor is tested out
+/// of line: a byte that is tested after a search would take the register of the text.
 #[inline(always)]
-fn put_main_line_end<'input>(
-    cursor: &mut Cursor<'input>,
-    builder: &mut Builder<'input>,
-    main: bool,
-) -> bool
+fn read_line_end<'input>(cursor: &mut Cursor<'input>, builder: &mut Builder<'input>) -> bool
     requires { MayReadRun cursor.old builder.old }
-    ensures { ReadsRun (λ k. k.values.main ≡ main) cursor.old cursor.new builder.old builder.new
+    ensures { ReadsRun (λ k. k.values.main ≡ true) cursor.old cursor.new builder.old builder.new
         result }
 {
-    if !main {
-        return false;
-    }
     let end = put_line_end(cursor.text, cursor.pos, builder);
     if end > MOST_BYTES {
         return false;
@@ -129,22 +122,21 @@ fn put_main_line_end<'input>(
     true
 }
 
-/// Reads character data, up to the next `<`, if it is a slice of the source, or what `put_main_line_end` reads. No text is open
-/// that it would continue. Returns whether it was read.
+/// Reads character data of the main text, up to the next `<`, if it is a slice of the source, or what `put_line_end` reads. No text
+/// is open that it would continue. Returns whether it was read.
 #[inline(always)]
 pub fn put_character_data<'input>(
     cursor: &mut Cursor<'input>,
     builder: &mut Builder<'input>,
-    main: bool,
 ) -> bool
     requires { MayReadRun cursor.old builder.old }
-    ensures { ReadsRun (λ k. k.values.main ≡ main) cursor.old cursor.new builder.old builder.new
+    ensures { ReadsRun (λ k. k.values.main ≡ true) cursor.old cursor.new builder.old builder.new
         result }
 {
     let start = cursor.pos;
     let text = cursor.text;
     let Some(end) = text_end(text, start) else {
-        return put_main_line_end(cursor, builder, main);
+        return read_line_end(cursor, builder);
     };
     cursor.pos = end;
     builder.put_text(start, end, StringStorage::Borrowed(&text[start..end]));

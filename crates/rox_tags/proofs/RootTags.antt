@@ -75,11 +75,11 @@ root_tagged blank old new src i n end t from namespace none same x is other star
     let fine : tag_tested (listed [] x.own) (length (attribute_rows blank.attributes)) i name x.written ≡ Ok tt =
     tested_passes (listed [] x.own) (length (attribute_rows blank.attributes)) i name x.written
     (tested_known (listed [] x.own) (length (attribute_rows blank.attributes)) (i + 1) name x.written (omega arith) passed (subst (λ ds. may_name ds name ≡ true) lists known)) in
-    let read : (context : Values) (cut : Fault) (openings_left : ℕ) → attributes_at (length src) context cut [] src n openings_left (holding [] [])
+    let read : (context : Values) → context.main ≡ true → (cut : Fault) (openings_left : ℕ) → attributes_at (length src) context cut [] src n openings_left (holding [] [])
     ≡ Ok (record { held = holding x.own x.written; empty = t.empty; openings_left = openings_left }, end) = grind arith in
     record {
       tag = record { name = name; name_end = n; declarations = x.own; attributes = x.written };
-      read = λ context cut openings_left. rw nothing (tag_made context cut [] (length (attribute_rows blank.attributes)) [] src i openings_left name n end (holding x.own x.written) t.empty openings_left is other (read context cut openings_left) fine);
+      read = λ context main cut openings_left. rw nothing (tag_made context cut [] (length (attribute_rows blank.attributes)) [] src i openings_left name n end (holding x.own x.written) t.empty openings_left is other (read context main cut openings_left) fine);
       tagged = record {
         name = refl;
         name_end = name_end;

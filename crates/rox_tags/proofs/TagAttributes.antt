@@ -20,6 +20,7 @@ use Rattle.rox_reading.specs.Lexical.{◌>>=◌}
 use Rattle.rox_reading.specs.Markup.{TagItem, more, opened, closed, tag_item_at}
 use Rattle.rox_reading.specs.Refusals.{lifted}
 use Rattle.rox_reading.specs.Tags.{TagSoFar, Values, attribute_with, attributes_at, declared, names_tested, taken, uri_tested}
+use Rattle.rox_reading.specs.Values.{value_at}
 use Rattle.rox_scopes.specs.Bindings.{FindsBinding}
 use Rattle.rox_names.specs.ResolvedNames.{AddsResolved, row_of_unresolved}
 use Rattle.rox_rows.specs.Rows.{AttributeRow, NamespaceWithin, attribute, attribute_rows}
@@ -130,12 +131,12 @@ still_shown ds later written h = known_shown ds later [] written h
 
 -- ---- one turn after another
 
-turn_item : (src : List ℕ) (i j n : ℕ) (a : UnresolvedAttribute) (held : TagSoFar) (context : Values) (cut : Fault) (known : List NamespaceDecl) (openings_left : ℕ) (h : IsPlainAttribute src j a)
+turn_item : (src : List ℕ) (i j n : ℕ) (a : UnresolvedAttribute) (held : TagSoFar) (context : Values) (cut : Fault) (known : List NamespaceDecl) (openings_left : ℕ) → context.main ≡ true → (h : IsPlainAttribute src j a)
     → i < length src → tag_item_at src i ≡ Ok (more (record { start = j; name = name_view a.name; name_end = a.name_end; value_start = a.value_start; value_end = h.value_end }), a.end)
     → attributes_at (suc n) context cut known src i openings_left held ≡ (lifted (taken known (unresolved_view a) held) >>= λ x. attributes_at n context cut known src a.end openings_left x)
 unfolding attributes_at
-turn_item src i j n a held context cut known openings_left h within item =
-    let v = h.value context.main context.entities context.opener openings_left in
+turn_item src i j n a held context cut known openings_left main h within item =
+    let v : value_at context.main context.entities context.opener src a.value_start h.value_end openings_left ≡ Ok (record { value = storage_bytes a.value; borrowed = is_borrowed a.value }, openings_left) = rw main (h.value context.entities context.opener openings_left) in
     let view : attribute_with (record { start = j; name = name_view a.name; name_end = a.name_end; value_start = a.value_start; value_end = h.value_end }) (record { value = storage_bytes a.value; borrowed = is_borrowed a.value }) ≡ unresolved_view a =
     rw (h.start, h.end) refl in
     rw ((lt-leb (length src) i within), item, v) (ap (λ (x : Attribute). lifted (taken known x held) >>= λ y. attributes_at n context cut known src a.end openings_left y) view)
@@ -146,12 +147,12 @@ taken_other known a held other = rw other refl
 pub taken_declared : (known : List NamespaceDecl) (a : Attribute) (held after : TagSoFar) → is_namespace_decl a.name ≡ true → declared known a held ≡ Ok after → taken known a held ≡ Ok after
 taken_declared known a held after is h = rw is h
 
-pub turn_is : (src : List ℕ) (i j n : ℕ) (a : UnresolvedAttribute) (held after : TagSoFar) (context : Values) (cut : Fault) (known : List NamespaceDecl) (openings_left : ℕ) → IsPlainAttribute src j a
+pub turn_is : (src : List ℕ) (i j n : ℕ) (a : UnresolvedAttribute) (held after : TagSoFar) (context : Values) (cut : Fault) (known : List NamespaceDecl) (openings_left : ℕ) → context.main ≡ true → IsPlainAttribute src j a
     → i ≤ j → j ≡ spaces_end src i → (j ≡ i → ⊥) → (slice_index src j == 47) ≡ false → (slice_index src j == 62) ≡ false → taken known (unresolved_view a) held ≡ Ok after
     → attributes_at (suc n) context cut known src i openings_left held ≡ attributes_at n context cut known src a.end openings_left after
-turn_is src i j n a held after context cut known openings_left plain onward spaces some slash close h =
+turn_is src i j n a held after context cut known openings_left main plain onward spaces some slash close h =
     let fits = plain.cut.0 in
-    turn_item src i j n a held context cut known openings_left plain (omega arith) (item_more src i j a.end _ spaces some slash close (omega arith) plain.read) ∙ rw h refl
+    turn_item src i j n a held context cut known openings_left main plain (omega arith) (item_more src i j a.end _ spaces some slash close (omega arith) plain.read) ∙ rw h refl
 
 -- ---- what is read so far
 
@@ -189,10 +190,10 @@ plain_more declares known namespaces scope own few present src start old i j now
           ∙ r.tested scope g.written rest h (ap (map (attribute namespaces)) (ap (drop (length old)) g.rows ∙ drop-append_seam old g.more) ∙ g.shown);
       turns = g.turns + 1;
       enough = omega arith;
-      read = λ context cut openings_left rest before such.
+      read = λ context main cut openings_left rest before such.
           let held = holding (before ++ own) g.written in
-          ap (λ (m : ℕ). attributes_at m context cut known src start openings_left (holding before [])) (omega arith) ∙ g.read context cut openings_left (suc rest) before such
-          ∙ turn_is src i j rest a held _ context cut known openings_left plain onward spaces some slash close (taken_other known view held other);
+          ap (λ (m : ℕ). attributes_at m context cut known src start openings_left (holding before [])) (omega arith) ∙ g.read context main cut openings_left (suc rest) before such
+          ∙ turn_is src i j rest a held _ context cut known openings_left main plain onward spaces some slash close (taken_other known view held other);
     }
 
 plain_passes : (declares : Bool) (known namespaces scope own : List NamespaceDecl) (src : List ℕ) (start : ℕ) (old : List AttributeRow) (i : ℕ) (now : List AttributeRow) (g : PlainSoFar declares known namespaces scope own src start old i now) → names_tested scope [] g.written ≡ Ok tt
@@ -244,9 +245,9 @@ plain_declared namespaces next own after src start old i j now a g onward spaces
       tested = λ rest. rw scope (still_tested (listable_of own) (listable_of (d ∷ [])) g.written rest passed);
       turns = g.turns + 1;
       enough = omega arith;
-      read = λ context cut openings_left rest before none.
-          rw none (ap (λ (m : ℕ). attributes_at m context cut [] src start openings_left (holding [] [])) (omega arith) ∙ g.read context cut openings_left (suc rest) [] refl
-          ∙ turn_is src i j rest a held _ context cut [] openings_left plain onward spaces some slash close (taken_declared [] view held _ is h));
+      read = λ context main cut openings_left rest before none.
+          rw none (ap (λ (m : ℕ). attributes_at m context cut [] src start openings_left (holding [] [])) (omega arith) ∙ g.read context main cut openings_left (suc rest) [] refl
+          ∙ turn_is src i j rest a held _ context cut [] openings_left main plain onward spaces some slash close (taken_declared [] view held _ is h));
     }
   where
     within_more : (s : AttributeNamespace) (n m : ℕ) → n ≤ m → NamespaceWithin n s → NamespaceWithin m s
@@ -270,9 +271,9 @@ end_is src i n j closed empty held context cut known openings_left within is h =
 
 plain_ends : (declares : Bool) (known namespaces scope own : List NamespaceDecl) (src : List ℕ) (start : ℕ) (old : List AttributeRow) (i j : ℕ) (now : List AttributeRow) (item : TagItem) (empty : Bool)
     → (g : PlainSoFar declares known namespaces scope own src start old i now) → i < length src → tag_item_at src i ≡ Ok (item, j) → IsEnd item empty → ReadsUpTo declares known own g.written src start j empty
-plain_ends declares known namespaces scope own src start old i j now item empty g within is h = λ context cut openings_left turns before fits such.
+plain_ends declares known namespaces scope own src start old i j now item empty g within is h = λ context main cut openings_left turns before fits such.
     let rest = turns - g.turns - 1 in
-    ap (λ (m : ℕ). attributes_at m context cut known src start openings_left (holding before [])) (omega arith) ∙ g.read context cut openings_left (suc rest) before such
+    ap (λ (m : ℕ). attributes_at m context cut known src start openings_left (holding before [])) (omega arith) ∙ g.read context main cut openings_left (suc rest) before such
     ∙ end_is src i rest j item empty (holding (before ++ own) g.written) context cut known openings_left within is h
 
 holds_end : (tag : TagScope) (old t : ElementTables) (src : List ℕ) (start i end : ℕ) (empty : Bool) → (g : HoldsSoFar tag old t src start i)

@@ -59,15 +59,15 @@ begun_tagged old new m n own src i k j end t from namespace few kept b x is othe
     let fine : tag_tested scope count i name x.written ≡ Ok tt =
     tested_passes scope count i name x.written (tested_known scope count (i + 1) name x.written fits tested (subst (λ (ds : List NamespaceDecl). may_name ds name ≡ true) b.lists known)) in
     let all : own ++ x.own ≡ own = ap (λ (ds : List NamespaceDecl). own ++ ds) x.declares.none ∙ append-nil own in
-    let read : (context : Values) (cut : Fault) (openings_left : ℕ) → attributes_at (length src) context cut names src k openings_left (holding [] [])
+    let read : (context : Values) → context.main ≡ true → (cut : Fault) (openings_left : ℕ) → attributes_at (length src) context cut names src k openings_left (holding [] [])
     ≡ Ok (record { held = holding own x.written; empty = t.empty; openings_left = openings_left }, end) =
-    λ context cut openings_left. subst (λ (ds : List NamespaceDecl). attributes_at (length src) context cut names src k openings_left (holding [] [])
-    ≡ Ok (record { held = holding ds x.written; empty = t.empty; openings_left = openings_left }, end)) all (b.read context cut openings_left ∙ x.read context cut openings_left b.turns own b.enough tt) in
+    λ context main cut openings_left. subst (λ (ds : List NamespaceDecl). attributes_at (length src) context cut names src k openings_left (holding [] [])
+    ≡ Ok (record { held = holding ds x.written; empty = t.empty; openings_left = openings_left }, end)) all (b.read context main cut openings_left ∙ x.read context main cut openings_left b.turns own b.enough tt) in
     let space : option_map (λ i. (namespace_at names i).uri) (numbered_place t.element.namespace) ≡ element_namespace scope name =
     subst (λ (ds : List NamespaceDecl). option_map (λ i. (namespace_at names i).uri) (numbered_place t.element.namespace) ≡ element_namespace ds name) b.lists (rw e.namespace named.is) in
     record {
       tag = record { name = name; name_end = k; declarations = own; attributes = x.written };
-      read = λ context cut openings_left. tag_made context cut above count names src i openings_left name k end (holding own x.written) t.empty openings_left is other (read context cut openings_left) fine;
+      read = λ context main cut openings_left. tag_made context cut above count names src i openings_left name k end (holding own x.written) t.empty openings_left is other (read context main cut openings_left) fine;
       tagged = grind (arith, append-nil);
       starts = starts;
       cut = cut;
@@ -81,7 +81,7 @@ begins_plain t o src k below = record {
   pairs = refl;
   turns = length src;
   enough = omega arith;
-  read = λ context cut openings_left. refl;
+  read = λ context main cut openings_left. refl;
 }
 
 pub plain_tagged : (old new : ElementTables) (o : OpenElement) (src : List ℕ) (i k end : ℕ) (t : StartTag) (from namespace : ℕ) → MayOpenBelow old o
@@ -97,4 +97,4 @@ pub plain_moves : (old new : ElementTables) (above : List NamespaceDecl) (src : 
     → IsPlainTag old new above src i j t → i < j
 plain_moves old new above src i j t utf8 x =
     let context : Values = record { main = true; entities = []; opener = λ text after l. Ok ([], l) } in
-    tag_moves src utf8 context fault.NoRootNode above _ _ i 0 _ (x.read context fault.NoRootNode 0)
+    tag_moves src utf8 context fault.NoRootNode above _ _ i 0 _ (x.read context refl fault.NoRootNode 0)

@@ -1,5 +1,5 @@
 -- Start tags that the fast path reads: their attributes have values that refer to no declared entity.
-use Rattle.std.specs.Prelude.{◌≡◌, ℕ, ◌+◌, ◌<◌, ◌≤◌, ◌^◌, false, List, ◌++◌, Option, Ok, length, map, slice_index, IfSome, IsCharBoundary}
+use Rattle.std.specs.Prelude.{◌≡◌, ℕ, ◌+◌, ◌<◌, ◌≤◌, ◌^◌, true, false, List, ◌++◌, Option, Ok, length, map, slice_index, IfSome, IsCharBoundary}
 use Rattle.rox_grammar.specs.declared.fault.Fault.{Fault}
 use Rattle.rox_grammar.specs.Written.{NamespaceDecl, Tag}
 use Rattle.rox_reading.specs.Tags.{Values, tag_at}
@@ -22,11 +22,10 @@ pub record HasMore (old new : ElementTables) : Type 0 where
   pub others : new ≡ record old { attributes = new.attributes }
   pub rows : attribute_rows new.attributes ≡ attribute_rows old.attributes ++ more
 
--- The start tag `t` is read from `i` up to `end`, whatever the context, and its parent lists `above`. It opens no replacement
--- text.
+-- The start tag `t` is read from `i` up to `end` in the main text, and its parent lists `above`. It opens no replacement text.
 pub record IsPlainTag (old new : ElementTables) (above : List NamespaceDecl) (src : List ℕ) (i end : ℕ) (t : StartTag) : Type 0 where
   pub tag : Tag
-  pub read : (context : Values) (cut : Fault) (openings_left : ℕ)
+  pub read : (context : Values) → context.main ≡ true → (cut : Fault) (openings_left : ℕ)
       → tag_at context cut above (length (attribute_rows old.attributes)) (map namespace_view old.namespaces.items.items) src i openings_left ≡ Ok (record { tag = tag; empty = t.empty; openings_left = openings_left }, end)
   pub tagged : Tagged old new t above tag
   pub starts : t.name_start ≡ i + 1

@@ -116,7 +116,7 @@ pub record PlainSoFar (declares : Bool) (known namespaces scope own : List Names
   -- They took `turns` turns.
   pub turns : ℕ
   pub enough : turns + start ≤ i
-  pub read : (context : Values) (cut : Fault) (openings_left rest : ℕ) (before : List NamespaceDecl) → MayFollow declares before
+  pub read : (context : Values) → context.main ≡ true → (cut : Fault) (openings_left rest : ℕ) (before : List NamespaceDecl) → MayFollow declares before
       → attributes_at (turns + rest) context cut known src start openings_left (holding before []) ≡ attributes_at rest context cut known src i openings_left (holding (before ++ own) written)
 
 -- A tag declares nothing in its scope `n`. The tables `now` are `old` with other attributes.
@@ -145,10 +145,10 @@ pub record HoldsSoFar (tag : TagScope) (old now : ElementTables) (src : List ℕ
   pub declares : DeclaresIn tag.declares old now tag.scope own
   pub so_far : PlainSoFar tag.declares (map namespace_view old.namespaces.items.items) (map namespace_view now.namespaces.items.items) (scope_in_tables now tag.scope) own src start (attribute_rows old.attributes) i (attribute_rows now.attributes)
 
--- A tag has the attributes `written` from `start` up to its end at `end`, where it declares `own`, whatever the context. The turns
--- that are left at `start` are enough, and the tag may declare something before if `declares` is false.
+-- A tag of the main text has the attributes `written` from `start` up to its end at `end`, where it declares `own`. The turns that
+-- are left at `start` are enough, and the tag may declare something before if `declares` is false.
 abbrev pub ReadsUpTo : (declares : Bool) (known own : List NamespaceDecl) (written : List Attribute) (src : List ℕ) (start end : ℕ) (empty : Bool) → Type 0
-ReadsUpTo declares known own written src start end empty = (context : Values) (cut : Fault) (openings_left turns : ℕ) (before : List NamespaceDecl) → length src ≤ turns + start → MayFollow declares before
+ReadsUpTo declares known own written src start end empty = (context : Values) → context.main ≡ true → (cut : Fault) (openings_left turns : ℕ) (before : List NamespaceDecl) → length src ≤ turns + start → MayFollow declares before
     → attributes_at turns context cut known src start openings_left (holding before [])
     ≡ Ok (record { held = holding (before ++ own) written; empty = empty; openings_left = openings_left }, end)
 

@@ -20,7 +20,7 @@ use Rattle.rox_attributes.specs.PlainAttribute.{HasScope}
 use Rattle.rox_tags.specs.TagAttributes.{holding}
 use Rattle.rox_tags.specs.declared.quick_tag.TagHead.{TagHead}
 
--- A tag whose parent has the scope `above` declares `own` between `k` and `j`, whatever the context. It has the scope `n` then,
+-- A tag whose parent has the scope `above` declares `own` between `k` and `j` in the main text. It has the scope `n` then,
 -- which is in the tables.
 pub record Begins (t : ElementTables) (above n : ℕ) (own : List NamespaceDecl) (src : List ℕ) (k j : ℕ) : Type 0 where
   pub scope : HasScope t n
@@ -28,7 +28,7 @@ pub record Begins (t : ElementTables) (above n : ℕ) (own : List NamespaceDecl)
   pub pairs : with_new (map namespace_view t.namespaces.items.items) (listable_of own) ≡ map namespace_view t.namespaces.items.items
   pub turns : ℕ
   pub enough : length src ≤ turns + j
-  pub read : (context : Values) (cut : Fault) (openings_left : ℕ)
+  pub read : (context : Values) → context.main ≡ true → (cut : Fault) (openings_left : ℕ)
       → attributes_at (length src) context cut (map namespace_view t.namespaces.items.items) src k openings_left (holding [] []) ≡ attributes_at turns context cut (map namespace_view t.namespaces.items.items) src j openings_left (holding own [])
 
 -- The start tag at `i` begins with `h`. Its parent has the scope `above`.

@@ -1,64 +1,28 @@
 -- The items of a value that need no entity.
-use Rattle.std.proofs.Common.{◌≡◌, ◌≢◌, ℕ, ◌+◌, ◌-◌, ◌<◌, ◌≤◌, ◌==◌, ◌||◌, ◌&&◌, Bool, true, false, not, List, [], ◌∷◌, ◌++◌, length, take, drop, slice_index, slice_range, inl, inr, refl, sym, ap, ◌∙◌, arith, Ok, Err, le-ltb, encode_utf8, chars, IsUtf8, IsCharBoundary}
-use Rattle.std.specs.List.{list_all}
-use Rattle.std.proofs.lemmas.Bool.{and_parts, cases_lt}
+use Rattle.std.proofs.Common.{◌≡◌, ◌≢◌, ℕ, ◌+◌, ◌-◌, ◌<◌, ◌≤◌, ◌==◌, ◌||◌, ◌&&◌, Bool, true, false, not, List, [], ◌∷◌, ◌++◌, length, take, drop, slice_index, slice_range, inl, inr, refl, sym, ap, ◌∙◌, arith, Ok, Err, encode_utf8, IsUtf8, IsCharBoundary}
+use Rattle.std.proofs.lemmas.Bool.{cases_lt}
 use Rattle.std.proofs.lemmas.Bool.Decides.{nat_tests}
 use Rattle.std.proofs.lemmas.List.{get_or_past, get_or-take, length-take-le, append-nil}
-use Rattle.std.proofs.lemmas.List.Folds.{list_all-append}
-use Rattle.std.proofs.lemmas.Str.{chars-append, IsUtf8-between, IsCharBoundary-after_ascii}
-use Rattle.rox_grammar.specs.Chars.{is_char}
-use Rattle.rox_grammar.specs.Runs.{run_end}
+use Rattle.std.proofs.lemmas.Str.{IsCharBoundary-after_ascii}
 use Rattle.rox_grammar.specs.Search.{byte_from}
 use Rattle.rox_grammar.specs.declared.fault.Fault.{Fault}
 use Rattle.rox_grammar.specs.declared.fault.Fault.TheVariants.{InvalidAttributeValue}
-use Rattle.rox_grammar.specs.Constructs.{AreChars}
 use Rattle.rox_grammar.specs.Entities.{Entity}
-use Rattle.rox_grammar.proofs.Stretches.{range_parts}
 use Rattle.rox_reading.proofs.ByteReads.{special_ascii}
 use Rattle.rox_reading.specs.Lexical.{chars_up_to}
 use Rattle.rox_reading.specs.Values.{ValueInclusion, character_of, is_special, bytes_of, reference_at, stretch_at, value_reference_at, value_bit_at, value_text}
-use Rattle.rox_scan.proofs.CharLemmas.{chars_all, all_chars}
 use Rattle.rox_scan.proofs.NearReads.{stretch_plain, stretch_special}
 use Rattle.rox_bytes.proofs.NearLemmas.{near_found}
-use Rattle.rox_bytes.specs.ByteSets.{AllPass, EndsSet, is_stretch_byte}
+use Rattle.rox_bytes.specs.ByteSets.{EndsSet, is_stretch_byte}
 use Rattle.rox_values.specs.Values.{behind, ends_stretch, is_inner_byte}
-use Rattle.rox_values.specs.PlainBits.{AreValueChars, GivesCharacter, IsRest, IsStretch, IsTested, PutsBit, PutsBits, PutsOne, kind_for, may_be}
-use Rattle.rox_values.specs.declared.plain_bits.TextKind.{TextKind}
-use Rattle.rox_values.specs.declared.plain_bits.TextKind.TheVariants as kind_of
+use Rattle.rox_values.specs.PlainBits.{GivesCharacter, IsRest, IsStretch, PutsBit, PutsBits, PutsOne}
 use Rattle.rox_values.proofs.InnerBytes.{inner_stops}
 use Rattle.rox_values.proofs.PartLemmas.{value_done, value_more}
 
--- ---- Chars in two parts
-
-chars_parted : (src : List ℕ) (i k j : ℕ) → IsUtf8 src → IsCharBoundary src i → IsCharBoundary src k → IsCharBoundary src j → i ≤ k → k ≤ j → AreChars src i j → AreChars src i k × AreChars src k j
-chars_parted src i k j utf8 from mid to le le' h =
-    let parts = range_parts src i k j le le' to.0 in
-    let text = IsUtf8-between src i k utf8 le from mid in
-    let split = ap (list_all is_char) (ap chars parts ∙ chars-append (slice_range src i k) (slice_range src k j) text) ∙ list_all-append is_char (chars (slice_range src i k)) (chars (slice_range src k j)) in
-    let both = and_parts (list_all is_char (chars (slice_range src i k))) (list_all is_char (chars (slice_range src k j))) (sym split ∙ (chars_all src i j utf8 from to h)) in
-    (all_chars src i k utf8 le from mid both.0, all_chars src k j utf8 le' mid to both.1)
-
-chars_read : (end : ℕ) (src : List ℕ) (i : ℕ) → AreChars src i end → chars_up_to end src i ≡ Ok (slice_range src i end, end)
-unfolding chars_up_to
-chars_read end src i h = let e = le-ltb (run_end is_char (take end src) i) end (omega arith) in rw e refl
-
--- what is left of a value behind a place of it
-pub tested_on : (kind : TextKind) (src : List ℕ) (i n stop : ℕ) → IsUtf8 src → IsCharBoundary src i → IsCharBoundary src n → IsCharBoundary src stop → i ≤ n → IsTested kind src i stop → IsTested kind src n stop
-tested_on kind_of.Main src i n stop utf8 from mid to le h = tt
-tested_on kind_of.Replacement src i n stop utf8 from mid to le h = tt
-tested_on kind_of.Either src i n stop utf8 from mid to le h = grind (arith, chars_parted)
-
 -- ---- one item, or none
 
-pub put_some : {kind : TextKind} {src : List ℕ} {i stop : ℕ} {old new : List ℕ} {j : ℕ} → PutsBit kind src i stop old new j → PutsOne kind src i stop old new j
+pub put_some : {main : Bool} {src : List ℕ} {i stop : ℕ} {old new : List ℕ} {j : ℕ} → PutsBit main src i stop old new j → PutsOne main src i stop old new j
 put_some b = let on = b.onward in record { put = λ some. b; refused = λ zero. absurd (omega (arith, zero, on)) }
-
--- what is read of a context
-pub kind_may : (main : Bool) → may_be (kind_for main) main ≡ true
-kind_may main = grind arith
-
-pub kind_tested : (main : Bool) (src : List ℕ) (i j : ℕ) → IsTested (kind_for main) src i j
-kind_tested main src i j = grind arith
 
 -- what was appended
 bit_put : (main : Bool) (es : List Entity) (src old new bs : List ℕ) (stop i j : ℕ) → value_bit_at main es src stop i ≡ Ok (bytes_of bs, j) → new ≡ old ++ bs
@@ -92,41 +56,41 @@ unfolding value_bit_at
 space_is main es src stop i special other no_cr = rw (no_reference_is _ other, white_is _ special other, no_return _ no_cr) refl
 
 -- a CR right before a LF gives nothing
-pub feed_put : (src old : List ℕ) (stop i : ℕ) → IsUtf8 src → i < length src → slice_index src i ≡ 13 → (slice_index (take stop src) (i + 1) == 10) ≡ true → PutsOne kind_of.Either src i stop old old (i + 1)
-feed_put src old stop i utf8 within here feed = put_some (record {
-  value = λ main es may. bit_put main es src old old [] stop i (i + 1) (feed_is main es src stop i here feed) (sym (append-nil old));
+pub feed_put : (main : Bool) (src old : List ℕ) (stop i : ℕ) → IsUtf8 src → i < length src → slice_index src i ≡ 13 → (slice_index (take stop src) (i + 1) == 10) ≡ true → PutsOne main src i stop old old (i + 1)
+feed_put main src old stop i utf8 within here feed = put_some (record {
+  value = λ es. bit_put main es src old old [] stop i (i + 1) (feed_is main es src stop i here feed) (sym (append-nil old));
   onward = omega arith;
   cut = IsCharBoundary-after_ascii src i utf8 within (omega (arith, here));
 })
 
 -- and else a space
-pub return_put : (src old new : List ℕ) (stop i : ℕ) → IsUtf8 src → i < length src → slice_index src i ≡ 13 → (slice_index (take stop src) (i + 1) == 10) ≡ false → new ≡ old ++ 32 ∷ []
-    → PutsOne kind_of.Either src i stop old new (i + 1)
-return_put src old new stop i utf8 within here other put = put_some (record {
-  value = λ main es may. bit_put main es src old new (32 ∷ []) stop i (i + 1) (return_is main es src stop i here other) put;
+pub return_put : (main : Bool) (src old new : List ℕ) (stop i : ℕ) → IsUtf8 src → i < length src → slice_index src i ≡ 13 → (slice_index (take stop src) (i + 1) == 10) ≡ false → new ≡ old ++ 32 ∷ []
+    → PutsOne main src i stop old new (i + 1)
+return_put main src old new stop i utf8 within here other put = put_some (record {
+  value = λ es. bit_put main es src old new (32 ∷ []) stop i (i + 1) (return_is main es src stop i here other) put;
   onward = omega arith;
   cut = IsCharBoundary-after_ascii src i utf8 within (omega (arith, here));
 })
 
-pub space_put : (src old new : List ℕ) (stop i : ℕ) → IsUtf8 src → i < length src → is_special (slice_index src i) ≡ true → slice_index src i ≢ 38 → slice_index src i ≢ 13 → new ≡ old ++ 32 ∷ []
-    → PutsOne kind_of.Either src i stop old new (i + 1)
-space_put src old new stop i utf8 within special other no_cr put = put_some (record {
-  value = λ main es may. bit_put main es src old new (32 ∷ []) stop i (i + 1) (space_is main es src stop i special other no_cr) put;
+pub space_put : (main : Bool) (src old new : List ℕ) (stop i : ℕ) → IsUtf8 src → i < length src → is_special (slice_index src i) ≡ true → slice_index src i ≢ 38 → slice_index src i ≢ 13 → new ≡ old ++ 32 ∷ []
+    → PutsOne main src i stop old new (i + 1)
+space_put main src old new stop i utf8 within special other no_cr put = put_some (record {
+  value = λ es. bit_put main es src old new (32 ∷ []) stop i (i + 1) (space_is main es src stop i special other no_cr) put;
   onward = omega arith;
   cut = IsCharBoundary-after_ascii src i utf8 within (special_ascii _ special);
 })
 
 -- ---- characters of references
 
-reference_is : (main : Bool) (es : List Entity) (src : List ℕ) (stop i c given j : ℕ) (kind : TextKind) → slice_index src i ≡ 38 → reference_at src i ≡ Ok (character_of c, j) → GivesCharacter kind c given → may_be kind main ≡ true
+reference_is : (main : Bool) (es : List Entity) (src : List ℕ) (stop i c given j : ℕ) → slice_index src i ≡ 38 → reference_at src i ≡ Ok (character_of c, j) → GivesCharacter main c given
     → value_bit_at main es src stop i ≡ Ok (bytes_of (encode_utf8 given), j)
 unfolding value_bit_at value_reference_at
-reference_is main es src stop i c given j kind amp read gives may = rw (amp, read, gives main i may) refl
+reference_is main es src stop i c given j amp read gives = rw (amp, read, gives i) refl
 
-pub reference_put : (kind : TextKind) (src old new : List ℕ) (stop i c given j : ℕ) → slice_index src i ≡ 38 → reference_at src i ≡ Ok (character_of c, j) → GivesCharacter kind c given → i < j → IsCharBoundary src j
-    → new ≡ old ++ encode_utf8 given → PutsOne kind src i stop old new j
-reference_put kind src old new stop i c given j amp read gives on cut put = put_some (record {
-  value = λ main es may. bit_put main es src old new (encode_utf8 given) stop i j (reference_is main es src stop i c given j kind amp read gives may) put;
+pub reference_put : (main : Bool) (src old new : List ℕ) (stop i c given j : ℕ) → slice_index src i ≡ 38 → reference_at src i ≡ Ok (character_of c, j) → GivesCharacter main c given → i < j → IsCharBoundary src j
+    → new ≡ old ++ encode_utf8 given → PutsOne main src i stop old new j
+reference_put main src old new stop i c given j amp read gives on cut put = put_some (record {
+  value = λ es. bit_put main es src old new (encode_utf8 given) stop i j (reference_is main es src stop i c given j amp read gives) put;
   onward = on;
   cut = cut;
 })
@@ -172,37 +136,17 @@ stretch_on src stop i j within before plain e = grind (arith, length-take-le, ge
 main_stretch : (src : List ℕ) (stop i j : ℕ) → EndsSet is_stretch_byte (take stop src) i j → stretch_at true src stop i ≡ Ok (bytes_of (slice_range src i j), j)
 main_stretch src stop i j e = grind (arith, near_found is_stretch_byte is_special (take stop src) i j e.onward e.within e.passes stretch_plain (λ more. stretch_special _ (e.stops more)))
 
-either_stretch : (src : List ℕ) (stop i j : ℕ) → IsUtf8 src → IsCharBoundary src i → IsCharBoundary src j → IsCharBoundary src stop → EndsSet is_stretch_byte (take stop src) i j → AreValueChars src i stop
-    → stretch_at false src stop i ≡ Ok (bytes_of (slice_range src i j), j)
-either_stretch src stop i j utf8 from mid to e t =
-    let long = length-take-le stop src to.0 in
-    let on = e.onward in
-    let both : AllPass passes (take stop src) i j = λ k low high. passes_on _ (e.passes k low high) (ap (λ (b : ℕ). b == 60) (get_or-take stop src k 0 (omega arith)) ∙ t.apart k low (omega arith)) in
-    let there = near_found passes (λ b. is_special b || b == 60) (take stop src) i j on e.within both passes_plain (λ more. special_ends _ (e.stops more)) in
-    let read = chars_read j src i (chars_parted src i j stop utf8 from mid to on (omega arith) t.chars).0 in
-    rw (there, read, (no_tag_at src stop i j to.0 on (omega arith) t.apart)) refl
-
 -- a stretch of the whole text, cut off at the end of the front
 pub cut_short : (src : List ℕ) (stop i e j : ℕ) → stop ≤ length src → j ≤ e → j ≤ stop → i ≤ j → (j < stop → j ≡ e) → EndsSet is_stretch_byte src i e → EndsSet is_stretch_byte (take stop src) i j
 cut_short src stop i e j within le le' on short s = grind (arith, length-take-le, get_or-take)
 
--- a stretch in the main text, or of a value that all texts read alike
-pub outer_stretch : (kind : TextKind) (src : List ℕ) (stop i j : ℕ) → kind ≢ kind_of.Replacement → IsUtf8 src → IsRest kind src i stop → i < stop → is_special (slice_index src i) ≡ false → EndsSet is_stretch_byte (take stop src) i j
-    → IsStretch kind src i stop j
-outer_stretch kind src stop i j other utf8 rest before plain e =
-    let cut = front_cut src stop j rest.stop e.within (λ more. special_ascii _ (stretch_special _ (e.stops more))) in
-    record {
-      value = by_kind kind other cut rest.tested;
-      onward = stretch_on src stop i j rest.stop.0 before plain e;
-      cut = cut;
-    }
-  where
-    by_kind : (kind : TextKind) → kind ≢ kind_of.Replacement → IsCharBoundary src j → IsTested kind src i stop → (main : Bool) → may_be kind main ≡ true → stretch_at main src stop i ≡ Ok (bytes_of (slice_range src i j), j)
-    by_kind kind_of.Main other cut t true may = main_stretch src stop i j e
-    by_kind kind_of.Main other cut t false may = cc may
-    by_kind kind_of.Replacement other cut t main may = absurd (other refl)
-    by_kind kind_of.Either other cut t true may = main_stretch src stop i j e
-    by_kind kind_of.Either other cut t false may = either_stretch src stop i j utf8 rest.start cut rest.stop e (t before)
+-- a stretch in the main text
+pub outer_stretch : (src : List ℕ) (stop i j : ℕ) → IsRest src i stop → i < stop → is_special (slice_index src i) ≡ false → EndsSet is_stretch_byte (take stop src) i j → IsStretch true src i stop j
+outer_stretch src stop i j rest before plain e = record {
+  value = main_stretch src stop i j e;
+  onward = stretch_on src stop i j rest.stop.0 before plain e;
+  cut = front_cut src stop j rest.stop e.within (λ more. special_ascii _ (stretch_special _ (e.stops more)));
+}
 
 inner_ascii : (b : ℕ) → is_inner_byte b ≡ false → b < 128
 unfolding is_inner_byte
@@ -244,29 +188,29 @@ pub stretch_is : (main : Bool) (es : List Entity) (src : List ℕ) (stop i : ℕ
 unfolding value_bit_at
 stretch_is main es src stop i plain = rw (no_reference (slice_index src i) plain, no_white (slice_index src i) plain) refl
 
-pub stretch_put : (kind : TextKind) (src old new : List ℕ) (stop i j : ℕ) → is_special (slice_index src i) ≡ false → IsStretch kind src i stop j → new ≡ old ++ slice_range src i j → PutsOne kind src i stop old new j
-stretch_put kind src old new stop i j plain s put = put_some (record {
-  value = λ main es may. bit_put main es src old new (slice_range src i j) stop i j (stretch_is main es src stop i plain ∙ s.value main may) put;
+pub stretch_put : (main : Bool) (src old new : List ℕ) (stop i j : ℕ) → is_special (slice_index src i) ≡ false → IsStretch main src i stop j → new ≡ old ++ slice_range src i j → PutsOne main src i stop old new j
+stretch_put main src old new stop i j plain s put = put_some (record {
+  value = λ es. bit_put main es src old new (slice_range src i j) stop i j (stretch_is main es src stop i plain ∙ s.value) put;
   onward = s.onward;
   cut = s.cut;
 })
 
 -- ---- several items
 
-pub none_put : (kind : TextKind) (src old : List ℕ) (stop i : ℕ) → IsCharBoundary src i → PutsBits kind src i stop old old i
-none_put kind src old stop i cut = record { reads = λ main bits may enough. (bits, (enough, λ es opener openings_left. refl)); onward = omega arith; cut = cut }
+pub none_put : (main : Bool) (src old : List ℕ) (stop i : ℕ) → IsCharBoundary src i → PutsBits main src i stop old old i
+none_put main src old stop i cut = record { reads = λ bits enough. (bits, (enough, λ es opener openings_left. refl)); onward = omega arith; cut = cut }
 
-pub one_more : (kind : TextKind) (src old mid new : List ℕ) (stop i j n : ℕ) → j < stop → PutsBits kind src i stop old mid j → PutsBit kind src j stop mid new n → PutsBits kind src i stop old new n
-one_more kind src old mid new stop i j n before p b =
+pub one_more : (main : Bool) (src old mid new : List ℕ) (stop i j n : ℕ) → j < stop → PutsBits main src i stop old mid j → PutsBit main src j stop mid new n → PutsBits main src i stop old new n
+one_more main src old mid new stop i j n before p b =
     let low = p.onward in
     record {
-      reads = λ main bits may enough.
-          let r = p.reads main bits may enough in
+      reads = λ bits enough.
+          let r = p.reads bits enough in
           let left = r.0 in
           let room = r.1.0 in
           let one : (left - 1) + 1 ≡ left = omega arith in (
             left - 1,
-            (omega arith, λ es opener openings_left. value_more main es opener openings_left mid new left (left - 1) src stop j n one before (b.value main es may) ∙ r.1.1 es opener openings_left),
+            (omega arith, λ es opener openings_left. value_more main es opener openings_left mid new left (left - 1) src stop j n one before (b.value es) ∙ r.1.1 es opener openings_left),
           );
       onward = omega arith;
       cut = b.cut;
@@ -280,23 +224,23 @@ special_cut src j within stops =
     (omega arith, λ inside wide. absurd (omega arith))
 
 -- a first stretch, or nothing where the value begins with a byte that changes it, and what is behind it
-pub front_put : (src front : List ℕ) (stop i j : ℕ) → IsUtf8 src → IsRest kind_of.Either src i stop → j < stop → EndsSet is_stretch_byte src i j → front ≡ slice_range src i j → PutsBits kind_of.Either src i stop [] front j
-front_put src front stop i j utf8 rest less e is = elim (cases_lt i j) [
+pub front_put : (src front : List ℕ) (stop i j : ℕ) → IsRest src i stop → j < stop → EndsSet is_stretch_byte src i j → front ≡ slice_range src i j → PutsBits true src i stop [] front j
+front_put src front stop i j rest less e is = elim (cases_lt i j) [
   | inl more ↦
       let short = cut_short src stop i j j rest.stop.0 (omega arith) (omega arith) e.onward (λ h. refl) e in
       let plain : is_special (slice_index src i) ≡ false = stretch_plain _ (e.passes i (omega arith) more) in
-      let s = outer_stretch kind_of.Either src stop i j (λ h. cc h) utf8 rest (omega arith) plain short in
-      let b = stretch_put kind_of.Either src [] front stop i j plain s is in
-      one_more kind_of.Either src [] [] front stop i i j (omega arith) (none_put kind_of.Either src [] stop i rest.start) (b.put (omega arith))
+      let s = outer_stretch src stop i j rest (omega arith) plain short in
+      let b = stretch_put true src [] front stop i j plain s is in
+      one_more true src [] [] front stop i i j (omega arith) (none_put true src [] stop i rest.start) (b.put (omega arith))
   | inr past ↦
       let at : j ≡ i = omega arith in
       let none : j - i ≡ 0 = omega arith in
-      rw ((is ∙ ap (λ (m : ℕ). take m (drop i src)) none), at) (none_put kind_of.Either src [] stop i rest.start)
+      rw ((is ∙ ap (λ (m : ℕ). take m (drop i src)) none), at) (none_put true src [] stop i rest.start)
 ]
 
-pub whole_value : (main : Bool) (es : List Entity) (opener : ValueInclusion) (openings_left : ℕ) (src front new : List ℕ) (stop i j n : ℕ) → PutsBits kind_of.Either src i stop [] front j → PutsBits kind_of.Either src j stop front new n → stop ≤ n
-    → value_text main es opener (stop - i) src stop i openings_left ≡ Ok (new, openings_left)
-whole_value main es opener openings_left src front new stop i j n f p past =
-    let r = f.reads main (stop - i) refl (omega arith) in
-    let q = p.reads main r.0 refl r.1.0 in
+pub whole_value : (es : List Entity) (opener : ValueInclusion) (openings_left : ℕ) (src front new : List ℕ) (stop i j n : ℕ) → PutsBits true src i stop [] front j → PutsBits true src j stop front new n → stop ≤ n
+    → value_text true es opener (stop - i) src stop i openings_left ≡ Ok (new, openings_left)
+whole_value es opener openings_left src front new stop i j n f p past =
+    let r = f.reads (stop - i) (omega arith) in
+    let q = p.reads r.0 r.1.0 in
     grind (arith, value_done)

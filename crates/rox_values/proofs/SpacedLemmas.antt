@@ -11,9 +11,8 @@ use Rattle.rox_grammar.proofs.Stretches.{range_parts}
 use Rattle.rox_reading.proofs.ByteReads.{special_ascii}
 use Rattle.rox_reading.specs.Values.{ValueInclusion, bytes_of, is_special, value_bit_at, value_text}
 use Rattle.rox_bytes.specs.ByteSets.{AllPass, EndsSet, is_run_byte, is_stretch_byte}
-use Rattle.rox_values.specs.PlainBits.{AreValueChars, IsTested, spaced_byte}
-use Rattle.rox_values.specs.declared.plain_bits.TextKind.TheVariants as kind_of
-use Rattle.rox_values.proofs.BitLemmas.{outer_stretch, space_is, stretch_is, tested_on}
+use Rattle.rox_values.specs.PlainBits.{spaced_byte}
+use Rattle.rox_values.proofs.BitLemmas.{outer_stretch, space_is, stretch_is}
 
 -- ---- bytes that are changed one after another
 
@@ -71,11 +70,11 @@ white_read src i stop more within is =
     let first : stop - i ≡ suc (stop - (i + 1)) = omega arith in
     rw (first, drop_more src i 0 (omega arith), is) refl
 
-pub spaced_read : (main : Bool) (es : List Entity) (opener : ValueInclusion) (openings_left : ℕ) (src : List ℕ) (stop n i : ℕ) → IsUtf8 src → stop - i ≤ n → i ≤ stop → IsCharBoundary src i → IsCharBoundary src stop
-    → IsTested kind_of.Either src i stop → AllPass is_run_byte src i stop → value_text main es opener n src stop i openings_left ≡ Ok (map spaced_byte (slice_range src i stop), openings_left)
-spaced_read main es opener openings_left src stop zero i utf8 few le from to tested all = none_left main es opener openings_left src stop zero i (omega arith)
-spaced_read main es opener openings_left src stop (suc n) i utf8 few le from to tested all = elim (cases_lt i stop) [
-  | inr past ↦ none_left main es opener openings_left src stop (suc n) i past
+pub spaced_read : (es : List Entity) (opener : ValueInclusion) (openings_left : ℕ) (src : List ℕ) (stop n i : ℕ) → IsUtf8 src → stop - i ≤ n → i ≤ stop → IsCharBoundary src i → IsCharBoundary src stop
+    → AllPass is_run_byte src i stop → value_text true es opener n src stop i openings_left ≡ Ok (map spaced_byte (slice_range src i stop), openings_left)
+spaced_read es opener openings_left src stop zero i utf8 few le from to all = none_left true es opener openings_left src stop zero i (omega arith)
+spaced_read es opener openings_left src stop (suc n) i utf8 few le from to all = elim (cases_lt i stop) [
+  | inr past ↦ none_left true es opener openings_left src stop (suc n) i past
   | inl more ↦
       let within = to.0 in
       let here = all i (omega arith) more in
@@ -84,19 +83,19 @@ spaced_read main es opener openings_left src stop (suc n) i utf8 few le from to 
             let no_reference = run_no_reference _ here in
             let no_return = run_no_return _ here in
             let mid : IsCharBoundary src (i + 1) = IsCharBoundary-after_ascii src i utf8 (omega arith) (special_ascii _ special) in
-            let rest = spaced_read main es opener openings_left src stop n (i + 1) utf8 (omega arith) (omega arith) mid to (tested_on kind_of.Either src i (i + 1) stop utf8 from mid to (omega arith) tested) (λ k low high. all k (omega arith) high) in
-            let read = item_read main es opener openings_left src (32 ∷ []) (map spaced_byte (slice_range src (i + 1) stop)) stop n i (i + 1) more (space_is main es src stop i special no_reference no_return) rest in
+            let rest = spaced_read es opener openings_left src stop n (i + 1) utf8 (omega arith) (omega arith) mid to (λ k low high. all k (omega arith) high) in
+            let read = item_read true es opener openings_left src (32 ∷ []) (map spaced_byte (slice_range src (i + 1) stop)) stop n i (i + 1) more (space_is true es src stop i special no_reference no_return) rest in
             read ∙ ap (λ (xs : List ℕ). Ok (xs, openings_left)) (white_read src i stop more within (white _ special no_reference no_return))
         | inr plain ↦
             let long = length-take-le stop src within in
             let r = ends_set is_stretch_byte (take stop src) (stop - i) i (omega (arith, long)) in
             let j = r.0 in
             let e = r.1 in
-            let s = outer_stretch kind_of.Either src stop i j (λ h. cc h) utf8 (record { start = from; stop = to; tested = tested }) more plain e in
+            let s = outer_stretch src stop i j (record { start = from; stop = to }) more plain e in
             let on = s.onward in
             let short = e.within in
-            let rest = spaced_read main es opener openings_left src stop n j utf8 (omega (arith, on)) (omega (arith, short, long)) s.cut to (tested_on kind_of.Either src i j stop utf8 from s.cut to (omega (arith, on)) tested) (λ k low high. all k (omega (arith, on, low)) high) in
-            let read = item_read main es opener openings_left src (slice_range src i j) (map spaced_byte (slice_range src j stop)) stop n i j more (stretch_is main es src stop i plain ∙ s.value main refl) rest in
+            let rest = spaced_read es opener openings_left src stop n j utf8 (omega (arith, on)) (omega (arith, short, long)) s.cut to (λ k low high. all k (omega (arith, on, low)) high) in
+            let read = item_read true es opener openings_left src (slice_range src i j) (map spaced_byte (slice_range src j stop)) stop n i j more (stretch_is true es src stop i plain ∙ s.value) rest in
             let stays = stretch_stays src i j (j - i) (omega (arith, on)) (omega (arith, short, long, within)) (λ k low high. sym (ap is_stretch_byte (get_or-take stop src k 0 (omega (arith, high, short, long)))) ∙ e.passes k low high) in
             let parts = range_parts src i j stop (omega (arith, on)) (omega (arith, short, long)) within in
             let whole : slice_range src i j ++ map spaced_byte (slice_range src j stop) ≡ map spaced_byte (slice_range src i stop) = ap (λ (xs : List ℕ). xs ++ map spaced_byte (slice_range src j stop)) (sym stays) ∙ sym (map-append spaced_byte (slice_range src i j) (slice_range src j stop)) ∙ sym (ap (map spaced_byte) parts) in
@@ -115,7 +114,7 @@ whole_runs src i first stop e all = λ k low high. elim (cases_lt k first) [
   | inr behind ↦ all k behind high
 ]
 
-pub spaced_value : (o : Option (String Global)) (src text : List ℕ) (i stop : ℕ) → IsUtf8 src → i ≤ stop → IsCharBoundary src i → IsCharBoundary src stop → AreValueChars src i stop → AllPass is_run_byte src i stop
+pub spaced_value : (o : Option (String Global)) (src text : List ℕ) (i stop : ℕ) → IsUtf8 src → i ≤ stop → IsCharBoundary src i → IsCharBoundary src stop → AllPass is_run_byte src i stop
     → text ≡ slice_range src i stop → IfSome o (λ s. string_bytes s ≡ map spaced_byte text)
-    → IfSome o (λ s. (main : Bool) (es : List Entity) (opener : ValueInclusion) (openings_left : ℕ) → value_text main es opener (stop - i) src stop i openings_left ≡ Ok (string_bytes s, openings_left))
-spaced_value o src text i stop utf8 le from to chars all is same = grind (arith, spaced_read)
+    → IfSome o (λ s. (es : List Entity) (opener : ValueInclusion) (openings_left : ℕ) → value_text true es opener (stop - i) src stop i openings_left ≡ Ok (string_bytes s, openings_left))
+spaced_value o src text i stop utf8 le from to all is same = grind (arith, spaced_read)

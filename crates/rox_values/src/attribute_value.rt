@@ -1,19 +1,19 @@
 //! The values of attributes, with references and white space replaced (XML 1.0 sections 3.3.3 and 4.1). `plain_bits` appends their
 //! items, and where it stops, this module opens an entity or tells the fault.
 
-ghost use Rattle.std.specs.Prelude.{◌≡◌, ◌-◌, ◌≤◌, ℕ, List, string_bytes, IsCharBoundary, ◌<◌};
+ghost use Rattle.std.specs.Prelude.{◌-◌, ◌≤◌, ℕ, List, string_bytes, IsCharBoundary, ◌<◌};
 ghost use Rattle.rox_reading.specs.Values as spec;
 ghost use Rattle.rox_scan.specs.Views.{HasValue};
 ghost use Rattle.rox_grammar.specs.Entities.{Entity};
 ghost use Rattle.rox_reading.specs.Machine.{value_opener};
 ghost use Rattle.rox_scan.specs.Views.{replacement_view};
 ghost use Rattle.rox_values.specs.DeclaredEntities.{AreDeclared};
-ghost use Rattle.rox_values.specs.PlainBits.{BeginsReference, NamesText, kind_for};
+ghost use Rattle.rox_values.specs.PlainBits.{BeginsReference, NamesText};
 ghost use Rattle.rox_values.specs.Values.{AppendsValue, GivesValue, piece_view};
 
 use crate::context::Context;
 use crate::parse_error::ParseError;
-use crate::plain_bits::{TextKind, inner_stretch_end, put_plain_bits};
+use crate::plain_bits::{inner_stretch_end, put_plain_bits};
 use crate::reference::{Reference, found, read_reference};
 use crate::text_value::TextValue;
 use rox_bytes::byte_set::{QuotedByte, skip_set};
@@ -76,18 +76,6 @@ fn other_bit<'input>(
     Err(Failure::Memory)
 }
 
-/// Returns the kind of the text of a context.
-#[inline(always)]
-fn text_kind(context: Context<'_, '_>) -> TextKind
-    ensures { result ≡ kind_for context.entry.main }
-{
-    if context.main {
-        TextKind::Main
-    } else {
-        TextKind::Replacement
-    }
-}
-
 /// Appends the value of the text from the cursor up to `stop`. `openings_left` replacement texts may be opened in it. Returns how
 /// many may be opened after it.
 #[cycle(values)]
@@ -107,10 +95,9 @@ fn value_text<'input>(
         from.entry.text.now stop from.entry.pos openings_left) }
 {
     let text = from.text;
-    let kind = text_kind(context);
     let mut at = from.pos;
     'bits: while at < stop {
-        at = put_plain_bits(text, at, stop, kind, out);
+        at = put_plain_bits(text, at, stop, context.main, out);
         if at >= stop {
             return Ok(openings_left);
         }

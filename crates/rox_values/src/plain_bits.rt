@@ -6,9 +6,7 @@ ghost use Rattle.rox_grammar.specs.Entities.{Entity};
 ghost use Rattle.rox_bytes.specs.ByteSets.{AllPass, is_run_byte};
 ghost use Rattle.rox_reading.specs.Values as spec;
 ghost use Rattle.rox_values.specs.Values.{is_inner_byte, StopsAt};
-ghost use Rattle.rox_values.specs.PlainBits.{BeginsBit, BeginsReference, BeginsStretch, GivesCharacter, GivesNoBytes, HasChange, HasNoCharacter, IsRest, IsStretch, PutsBits, PutsOne, StopsAtOne, StopsWithRoom, depends_on_kind, spaced_byte, GivesStretch};
-ghost use Rattle.rox_values.specs.declared.plain_bits.TextKind.{TextKind};
-ghost use Rattle.rox_values.specs.declared.plain_bits.TextKind.TheVariants as kind_of;
+ghost use Rattle.rox_values.specs.PlainBits.{BeginsBit, BeginsReference, BeginsStretch, GivesCharacter, GivesNoBytes, HasChange, HasNoCharacter, IsRest, IsStretch, PutsBits, PutsOne, StopsAtOne, StopsWithRoom, spaced_byte, GivesStretch};
 ghost use Rattle.rox_reading.specs.Values.{stretch_at};
 
 use crate::reference::{Reference, read_reference};
@@ -21,15 +19,6 @@ use rox_scan::lookahead::{RunByte, StretchByte, is_special};
 use std::alloc::Global;
 use std::simd::prelude::*;
 
-/// The kind of the text that has a value: the main text or a replacement text. `Either` means that it may be both, and that the
-/// value is of Chars other than `<`.
-#[derive(Clone, Copy)]
-pub enum TextKind {
-    Main,
-    Replacement,
-    Either,
-}
-
 /// Appends a space for the white space byte at `at`, or nothing for a CR right before a LF. Returns the offset after the byte, or 0
 /// if memory is refused.
 #[inline(always)]
@@ -37,9 +26,9 @@ fn put_space(text: &str, at: usize, stop: usize, out: &mut String) -> usize
     requires stop_is { StopsAt text.now at stop }
     requires here { spec.is_special (slice_index text.now at) ≡ true }
     requires no_reference { slice_index text.now at ≢ 38 }
-    ensures puts { PutsOne kind_of.Either text.now at stop (string_bytes out.old)
+    ensures puts { (main : Bool) → PutsOne main text.now at stop (string_bytes out.old)
         (string_bytes out.new) result }
-    ensures stops { (kind : TextKind) → StopsAtOne kind text.now at stop (string_len out.old) (string_capacity out.old)
+    ensures stops { (main : Bool) → StopsAtOne main text.now at stop (string_len out.old) (string_capacity out.old)
         (string_len out.new) (string_capacity out.new) result }
 {
     let after = at + 1;
@@ -56,7 +45,7 @@ fn put_space(text: &str, at: usize, stop: usize, out: &mut String) -> usize
 /// Returns `None` for a `<`, which is a fault (XML 1.0 sections 3.1 and 3.3.3).
 #[inline(always)]
 fn inner_given(character: char) -> Option<char>
-    ensures some { IfSome result (λ c. GivesCharacter kind_of.Replacement character c) }
+    ensures some { IfSome result (λ c. GivesCharacter false character c) }
     ensures none { IfNone result (character ≡ 60) }
 {
     if character == '<' {
@@ -68,52 +57,27 @@ fn inner_given(character: char) -> Option<char>
     Some(character)
 }
 
-/// Returns whether what a reference to `character` gives in a value depends on the kind of the text.
+/// Returns the character that a reference to `character` gives in a value of the main text, if `main` is true, or of a replacement
+/// text. Returns `None` if it is a fault there.
 #[inline(always)]
-fn depends_on_kind(character: char) -> bool
-    ensures { result ≡ depends_on_kind character }
+fn given(character: char, main: bool) -> Option<char>
+    ensures some { IfSome result (λ c. GivesCharacter main character c) }
+    ensures none { IfNone result (HasNoCharacter main character) }
 {
-    (character == '\t') | ((character == '\n') | ((character == '\r') | (character == '<')))
-}
-
-/// Returns the character that a reference to `character` gives in a value of either kind of text. Returns `None` for `<`, TAB, LF and
-/// CR, which depend on the kind.
-#[inline(always)]
-fn alike_given(character: char) -> Option<char>
-    ensures some { IfSome result (λ c. GivesCharacter kind_of.Either character c) }
-    ensures none { IfNone result (HasNoCharacter kind_of.Either character) }
-{
-    if depends_on_kind(character) {
-        return None;
-    }
-    Some(character)
-}
-
-/// Returns the character that a reference to `character` gives in a value, or `None` if that is a fault. Also returns `None` if it
-/// depends on the kind of the text, which is not known: it does for `<`, TAB, LF and CR.
-#[inline(always)]
-fn given(character: char, kind: TextKind) -> Option<char>
-    ensures some { IfSome result (λ c. GivesCharacter kind character c) }
-    ensures none { IfNone result (HasNoCharacter kind character) }
-{
-    if character > '\r' && character != '<' {
+    if main {
         return Some(character);
     }
-    match kind {
-        TextKind::Main => Some(character),
-        TextKind::Replacement => inner_given(character),
-        TextKind::Either => alike_given(character),
-    }
+    inner_given(character)
 }
 
 /// Appends the character that the reference at `at` gives in a value. Returns the offset after the reference, or 0 if it names an
-/// entity, if it is a fault, if what it gives depends on the kind of the text, or if memory is refused.
+/// entity, if it is a fault, or if memory is refused.
 #[inline(always)]
-fn put_reference(text: &str, at: usize, kind: TextKind, out: &mut String) -> usize
+fn put_reference(text: &str, at: usize, main: bool, out: &mut String) -> usize
     requires { BeginsReference text.now at }
-    ensures puts { (stop : ℕ) → PutsOne kind text.now at stop (string_bytes out.old)
+    ensures puts { (stop : ℕ) → PutsOne main text.now at stop (string_bytes out.old)
         (string_bytes out.new) result }
-    ensures stops { (stop : ℕ) → StopsAtOne kind text.now at stop (string_len out.old) (string_capacity out.old)
+    ensures stops { (stop : ℕ) → StopsAtOne main text.now at stop (string_len out.old) (string_capacity out.old)
         (string_len out.new) (string_capacity out.new) result }
 {
     let mut cursor = Cursor::at(text, at);
@@ -122,7 +86,7 @@ fn put_reference(text: &str, at: usize, kind: TextKind, out: &mut String) -> usi
         Ok(Reference::Entity(_, _)) => return 0,
         Err(_) => return 0,
     };
-    let Some(given) = given(character, kind) else {
+    let Some(given) = given(character, main) else {
         return 0;
     };
     if out.push(given).is_err() {
@@ -159,7 +123,7 @@ impl ByteSet for InnerByte {
 #[cold]
 #[inline(never)]
 pub(crate) fn inner_stretch_end(text: &str, at: usize, stop: usize) -> Result<usize, Fault>
-    requires { BeginsStretch kind_of.Replacement text.now at stop }
+    requires { BeginsStretch text.now at stop }
     ensures value { GivesStretch text.now at result (stretch_at false text.now stop at) }
     ensures onward { IfOk result (λ j. at < j) }
     ensures short { IfOk result (λ j. j ≤ stop) }
@@ -177,32 +141,32 @@ pub(crate) fn inner_stretch_end(text: &str, at: usize, stop: usize) -> Result<us
 
 /// Returns the end of the bytes of a value from `at` on that do not change it, or `None` if there is a fault among them.
 #[inline(always)]
-fn stretch_end(text: &str, at: usize, stop: usize, kind: TextKind) -> Option<usize>
-    requires { BeginsStretch kind text.now at stop }
-    ensures some { IfSome result (λ end. IsStretch kind text.now at stop end) }
+fn stretch_end(text: &str, at: usize, stop: usize, main: bool) -> Option<usize>
+    requires { BeginsStretch text.now at stop }
+    ensures some { IfSome result (λ end. IsStretch main text.now at stop end) }
     ensures short { IfSome result (λ end. end ≤ stop) }
-    ensures none { IfNone result (GivesNoBytes kind text.now at stop) }
+    ensures none { IfNone result (GivesNoBytes main text.now at stop) }
 {
-    if let TextKind::Replacement = kind {
-        return match inner_stretch_end(text, at, stop) {
-            Ok(end) => Some(end),
-            Err(_) => None,
-        };
+    if main {
+        return Some(skip_set::<StretchByte>(text, at).min(stop));
     }
-    Some(skip_set::<StretchByte>(text, at).min(stop))
+    match inner_stretch_end(text, at, stop) {
+        Ok(end) => Some(end),
+        Err(_) => None,
+    }
 }
 
 /// Appends the bytes of a value from `at` on that do not change it. Returns the offset after them, or 0 if there is a fault among
 /// them or memory is refused.
 #[inline(always)]
-fn put_stretch(text: &str, at: usize, stop: usize, kind: TextKind, out: &mut String) -> usize
-    requires { BeginsStretch kind text.now at stop }
-    ensures puts { PutsOne kind text.now at stop (string_bytes out.old) (string_bytes out.new)
+fn put_stretch(text: &str, at: usize, stop: usize, main: bool, out: &mut String) -> usize
+    requires { BeginsStretch text.now at stop }
+    ensures puts { PutsOne main text.now at stop (string_bytes out.old) (string_bytes out.new)
         result }
-    ensures stops { StopsAtOne kind text.now at stop (string_len out.old) (string_capacity out.old)
+    ensures stops { StopsAtOne main text.now at stop (string_len out.old) (string_capacity out.old)
         (string_len out.new) (string_capacity out.new) result }
 {
-    let Some(end) = stretch_end(text, at, stop, kind) else {
+    let Some(end) = stretch_end(text, at, stop, main) else {
         return 0;
     };
     if out.push_str(&text[at..end]).is_err() {
@@ -212,44 +176,39 @@ fn put_stretch(text: &str, at: usize, stop: usize, kind: TextKind, out: &mut Str
 }
 
 /// Appends what the item of a value at `at` gives. Returns the offset after the item, or 0 if it is a reference to an entity or a
-/// fault, if it depends on the kind of the text, or if memory is refused.
+/// fault, or if memory is refused.
 #[inline(always)]
-fn put_bit(text: &str, at: usize, stop: usize, kind: TextKind, out: &mut String) -> usize
-    requires { BeginsBit kind text.now at stop }
-    ensures puts { PutsOne kind text.now at stop (string_bytes out.old) (string_bytes out.new)
+fn put_bit(text: &str, at: usize, stop: usize, main: bool, out: &mut String) -> usize
+    requires { BeginsBit text.now at stop }
+    ensures puts { PutsOne main text.now at stop (string_bytes out.old) (string_bytes out.new)
         result }
-    ensures stops { StopsAtOne kind text.now at stop (string_len out.old) (string_capacity out.old)
+    ensures stops { StopsAtOne main text.now at stop (string_len out.old) (string_capacity out.old)
         (string_len out.new) (string_capacity out.new) result }
 {
     let here = text.as_bytes()[at];
     if here == b'&' {
-        return put_reference(text, at, kind, out);
+        return put_reference(text, at, main, out);
     }
     if matches!(here, b'\t' | b'\n' | b'\r') {
         return put_space(text, at, stop, out);
     }
-    put_stretch(text, at, stop, kind, out)
+    put_stretch(text, at, stop, main, out)
 }
 
-/// Appends what the value's text from `start` up to `stop` gives. Stops at a reference to an entity, at a fault, at an item that
-/// depends on the kind of the text, and where memory is refused. Returns the offset at which it stops, or the end.
+/// Appends what the value's text from `start` up to `stop` gives, in the main text if `main` is true, otherwise in a replacement
+/// text. Stops at a reference to an entity, at a fault, and where memory is refused. Returns the offset at which it stops, or the
+/// end.
 #[inline(always)]
-pub fn put_plain_bits(
-    text: &str,
-    start: usize,
-    stop: usize,
-    kind: TextKind,
-    out: &mut String,
-) -> usize
-    requires { IsRest kind text.now start stop }
-    ensures puts { PutsBits kind text.now start stop (string_bytes out.old) (string_bytes out.new)
+pub fn put_plain_bits(text: &str, start: usize, stop: usize, main: bool, out: &mut String) -> usize
+    requires { IsRest text.now start stop }
+    ensures puts { PutsBits main text.now start stop (string_bytes out.old) (string_bytes out.new)
         result }
-    ensures stops { StopsWithRoom kind text.now stop (string_capacity out.old)
+    ensures stops { StopsWithRoom main text.now stop (string_capacity out.old)
         (string_len out.new) result }
 {
     let mut at = start;
     'bits: while at < stop {
-        let after = put_bit(text, at, stop, kind, out);
+        let after = put_bit(text, at, stop, main, out);
         if after == 0 {
             return at;
         }
@@ -318,8 +277,8 @@ fn is_roomy(len: usize, count: usize) -> bool {
     count > 24 && len < count / 4 * 3
 }
 
-/// Returns the value of the text from `start` up to `stop`, or `None` if it depends on the kind of the text or on entities, or if
-/// memory is refused, which sets `lacking`. The first byte that changes it is at `first`. The function is out of line so that its
+/// Returns the value of the main text from `start` up to `stop`, or `None` if it refers to an entity, or if memory is refused, which
+/// sets `lacking`. The first byte that changes it is at `first`. The function is out of line so that its
 /// variables stay in registers.
 #[inline(never)]
 pub fn changed_value(
@@ -331,9 +290,9 @@ pub fn changed_value(
     lacking: &mut bool,
 ) -> Option<String>
     requires { HasChange text.now start first stop }
-    ensures { IfSome result (λ s. (main : Bool) (es : List Entity) (opener : spec.ValueInclusion)
+    ensures { IfSome result (λ s. (es : List Entity) (opener : spec.ValueInclusion)
         (openings_left : ℕ)
-        → spec.value_text main es opener (stop - start) text.now stop start openings_left
+        → spec.value_text true es opener (stop - start) text.now stop start openings_left
         ≡ Ok (string_bytes s, openings_left)) }
 {
     if is_spaced(text, start, first, stop) {
@@ -347,7 +306,7 @@ pub fn changed_value(
     if out.push_str(&text[start..first]).is_err() {
         return None;
     }
-    if put_plain_bits(text, first, stop, TextKind::Either, &mut out) < stop {
+    if put_plain_bits(text, first, stop, true, &mut out) < stop {
         return None;
     }
     if is_roomy(out.len(), count) {

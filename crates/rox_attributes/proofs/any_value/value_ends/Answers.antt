@@ -4,7 +4,7 @@ use Rattle.std.proofs.lemmas.Bool.{cases_lt}
 use Rattle.rox_scan.proofs.NearReads.{stretch_special}
 use Rattle.rox_bytes.proofs.NearLemmas.{value_cut}
 use Rattle.rox_values.proofs.BitLemmas.{from_start}
-use Rattle.rox_attributes.proofs.SpacedEnds.{ends_before, near_verbatim, no_tag, plain_looked, spaced_looked, value_goes_on}
+use Rattle.rox_attributes.proofs.SpacedEnds.{ends_before, near_verbatim, plain_looked, spaced_looked, value_goes_on}
 use Rattle.rox_attributes.proofs.any_value.value_ends.Goals as goal
 
 pub changed_end-end-requires : goal.changed_end-end-requires
@@ -61,7 +61,6 @@ returns c =
               stops = λ _. g.stops before;
             };
             before = before;
-            chars = record { chars = l.chars; apart = λ k above below. no_tag c.args.quote _ (l.apart k above below) };
           };
       here = first_of (search rules, grind (arith, common_steps));
     }

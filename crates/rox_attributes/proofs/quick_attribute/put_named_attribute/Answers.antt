@@ -1,4 +1,4 @@
-use Rattle.std.proofs.Common.{◌≡◌, ◌-◌, ◌+◌, length, map, slice_index, refl, sym, ap, subst, ◌∙◌, arith}
+use Rattle.std.proofs.Common.{true, ◌≡◌, ◌-◌, ◌+◌, length, map, slice_index, refl, sym, ap, subst, ◌∙◌, arith}
 use Rattle.std.proofs.lemmas.List.{length-map}
 use Rattle.rox_grammar.specs.Failures.{name_view}
 use Rattle.rox_grammar.proofs.Stretches.{range_length}
@@ -62,7 +62,7 @@ returns c =
       read = attribute_reads src i (name_view name) n s q j e c.requires.named.value v here is_quote (not_zero q is_quote) (rw there at w.read) (w.here ∙ there) done;
       start = refl;
       end = done;
-      value = λ main es opener openings_left. rw w.is (value_is main es opener src s j openings_left w.verbatim);
+      value = λ es opener openings_left. rw w.is (value_is true es opener src s j openings_left w.verbatim);
       cut = c.after_byte.ensures.cut;
       onward = omega arith;
       local = local;

@@ -3,6 +3,6 @@ use Rattle.rox_build.proofs.reader.root_start.Goals as goal
 
 pub returns-in-Read : goal.returns-in-Read
 returns-in-Read c = record {
-  value = λ limit end es s declared sees. c.root_element.ensures.value c.in-Read.is (context_of limit es c.args.context) end s sees;
+  value = λ limit end es s declared sees. c.root_element.ensures.value c.in-Read.is (context_of limit es c.args.context) end s c.requires.main sees;
   goes = c.root_element.ensures.goes (λ is. absurd (cc (is, c.in-Read.is)));
 }

@@ -1,8 +1,7 @@
-use Rattle.std.proofs.Common.{ℕ, List, ◌+◌, slice_index, ne_eqb, refl, ap, ◌∙◌, arith}
+use Rattle.std.proofs.Common.{ℕ, List, slice_index, refl, ap, ◌∙◌, arith}
 use Rattle.rox_builder.proofs.Stepping.{step_is_markup}
 use Rattle.rox_sections.proofs.PlainReads.{keeps_same}
 use Rattle.rox_content.proofs.quick_content.markup_of_text.Goals as goal
-use Rattle.rox_content.proofs.quick_content.markup_of_text.Goals.{then-next-le63, else-next-le63}
 
 pub returns-then-next-eq47 : goal.returns-then-next-eq47
 returns-then-next-eq47 c = record {
@@ -15,31 +14,13 @@ returns-then-next-eq47 c = record {
 
 pub returns : goal.returns
 returns c = record {
-  value = λ _ context end s around h.
-      elim c.if-next-le63.branch [
-        | then-next-le63 w ↦ rw w.builder-is (w.put_delimited-stop.ensures.value (omega (arith, c.if-stop-gt-MOST_BYTES.false, w.stop-is)) context end s c.args.cursor.now _ refl w.stop-is h)
-        | else-next-le63 w ↦ (
-            let i = c.args.cursor.now.pos in
-            let b = slice_index c.as_bytes-bytes.result.now (i + 1) in
-            let is = step_is_markup context c.args.cursor.now.text.now _ s i b c.as_bytes-bytes.ensures.value h.here (ap (λ (xs : List ℕ). slice_index xs c.args.cursor.now.pos) c.as_bytes-bytes.ensures.value ∙ c.requires.here) c.if-cursor-bytes.false refl (λ e. absurd (omega (arith, w.if-next-le63.false, e))) in
-            rw (is, ne_eqb b 63 (λ e. absurd (omega (arith, w.if-next-le63.false, e))), ne_eqb b 47 (λ e. absurd (omega (arith, w.if-next-le63.false, e))), w.builder-is)
-            (w.element_in_scope-stop.ensures.value (omega (arith, c.if-stop-gt-MOST_BYTES.false, w.stop-is)) context end s c.args.cursor.now _ refl w.stop-is h))
-      ];
+  value = λ _ context end s around h. c.put_delimited-stop.ensures.value (omega (arith, c.if-stop-gt-MOST_BYTES.false)) context end s c.args.cursor.now _ refl refl h;
   other = λ no. absurd (cc no);
-  goes = record {
-    source = refl;
-    fine = elim c.if-next-le63.branch [
-      | then-next-le63 w ↦ rw w.builder-is w.put_delimited-stop.ensures.fine
-      | else-next-le63 w ↦ rw w.builder-is w.element_in_scope-stop.ensures.fine
-    ];
-  };
+  goes = record { source = refl; fine = c.put_delimited-stop.ensures.fine };
 }
 
 pub returns-then-stop-gt-MOST_BYTES : goal.returns-then-stop-gt-MOST_BYTES
 returns-then-stop-gt-MOST_BYTES c = grind arith
-
-pub element_in_scope-stop-requires : goal.element_in_scope-stop-requires
-element_in_scope-stop-requires c = grind arith
 
 pub invariant_of-cursor : goal.invariant_of-cursor
 invariant_of-cursor c = grind arith

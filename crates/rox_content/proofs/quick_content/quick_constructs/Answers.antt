@@ -14,6 +14,13 @@ returns-then-cursor-gt-MOST_BYTES c = record {
   goes = record { source = refl; fine = c.requires.fine };
 }
 
+pub returns-then-not-main : goal.returns-then-not-main
+returns-then-not-main c = record {
+  value = λ context end s around main h. (0, reads_none context end c.args.cursor.now.text.now s c.args.cursor.now c.args.builder.now h);
+  moves = λ yes. absurd (cc yes);
+  goes = record { source = refl; fine = c.requires.fine };
+}
+
 pub returns-then-not-stands_apart : goal.returns-then-not-stands_apart
 returns-then-not-stands_apart c = record {
   value = λ context end s around main h. (0, reads_none context end c.args.cursor.now.text.now s c.args.cursor.now c.args.builder.now h);
@@ -94,14 +101,14 @@ loop-builder-preserved c =
                 rw (w.here-is, w.builder-is) (
                   read.0 + 1,
                   reads_run context end read.0 src s c.loop-builder.here w.put_character_data.new.cursor c.loop-builder.builder w.put_character_data.new.builder (g, inner, within) w.put_character_data.ensures.opened
-                      (rw (step_is_run context src _ g.behind c.loop-builder.here.pos (c.as_bytes-bytes.ensures.value ∙ s0) g.sees.here w.if-bytes-here-ne60.true) (rw s0 at (w.put_character_data.ensures.value yes context end g.behind main g.sees)))
+                      (rw (step_is_run context src _ g.behind c.loop-builder.here.pos (c.as_bytes-bytes.ensures.value ∙ s0) g.sees.here w.if-bytes-here-ne60.true) (rw s0 at (w.put_character_data.ensures.value yes context end g.behind (main ∙ c.if-not-main.false) g.sees)))
                       (rw s0 at (w.put_character_data.ensures.behind yes)),
                 ))
             | else-bytes-here-ne60 w ↦ rw (w.here-is, w.builder-is) (read.0, (g, inner, within))
           ] in (
             between.0 + 1,
             reads_markup context end between.0 src s c.if-bytes-here-ne60.here c.quick_markup.new.cursor c.if-bytes-here-ne60.builder c.quick_markup.new.builder between.1
-                (λ t sees. rw (ap (λ t. t.now) source) at (c.quick_markup.ensures.reads.value c.if-not-quick_markup.false context end t around sees)),
+                (λ t sees. rw (ap (λ t. t.now) source) at (c.quick_markup.ensures.reads.value c.if-not-quick_markup.false context end t (around, main ∙ c.if-not-main.false) sees)),
           );
     }
 
@@ -133,7 +140,7 @@ returns c = record {
                   rw (v.here-is, v.builder-is) (
                     read.0 + 1,
                     reads_run context end read.0 src s c.loop-builder.here v.put_character_data.new.cursor c.loop-builder.builder v.put_character_data.new.builder (g, inner, within) v.put_character_data.ensures.opened
-                        (rw (step_is_run context src _ g.behind c.loop-builder.here.pos (w.as_bytes-bytes.ensures.value ∙ s0) g.sees.here v.if-bytes-here-ne60.true) (rw s0 at (v.put_character_data.ensures.value yes context end g.behind main g.sees)))
+                        (rw (step_is_run context src _ g.behind c.loop-builder.here.pos (w.as_bytes-bytes.ensures.value ∙ s0) g.sees.here v.if-bytes-here-ne60.true) (rw s0 at (v.put_character_data.ensures.value yes context end g.behind (main ∙ c.if-not-main.false) g.sees)))
                         (rw s0 at (v.put_character_data.ensures.behind yes)),
                   ))
               | else-bytes-here-ne60 v ↦ rw (v.here-is, v.builder-is) (read.0, (g, inner, within))

@@ -9,7 +9,7 @@ returns-then-next-eq47 c = record {
   reads = record {
     value = λ yes context end s around h.
         rw (step_is_markup context c.args.cursor.now.text.now _ s c.args.cursor.now.pos 47 c.as_bytes-bytes.ensures.value h.here (ap (λ (xs : List ℕ). slice_index xs c.args.cursor.now.pos) c.as_bytes-bytes.ensures.value ∙ c.requires.here) c.if-cursor-bytes.false c.if-next-eq47.true (λ e. cc e))
-        (c.close_element.ensures.value yes context end s around h);
+        (c.close_element.ensures.value yes context end s around.0 h);
     other = λ no. let o = c.close_element.ensures.other no in (o.0, keeps_same _ _ o.1);
     goes = c.close_element.ensures.goes;
   };
@@ -41,7 +41,7 @@ returns-then-element_of_name c = record {
         let i = c.args.cursor.now.pos in
         let b = slice_index c.as_bytes-bytes.result.now (i + 1) in
         let is = step_is_markup context c.args.cursor.now.text.now _ s i b c.as_bytes-bytes.ensures.value h.here (ap (λ (xs : List ℕ). slice_index xs c.args.cursor.now.pos) c.as_bytes-bytes.ensures.value ∙ c.requires.here) c.if-cursor-bytes.false refl (λ e. absurd (omega (arith, c.if-next-le63.false, e))) in
-        rw (is, ne_eqb b 63 (λ e. absurd (omega (arith, c.if-next-le63.false, e))), ne_eqb b 47 (λ e. absurd (omega (arith, c.if-next-le63.false, e)))) (c.element_of_name.ensures.value c.if-element_of_name.true context end s tt h);
+        rw (is, ne_eqb b 63 (λ e. absurd (omega (arith, c.if-next-le63.false, e))), ne_eqb b 47 (λ e. absurd (omega (arith, c.if-next-le63.false, e)))) (c.element_of_name.ensures.value c.if-element_of_name.true context end s around.1 h);
     other = λ no. absurd (cc no);
     goes = c.element_of_name.ensures.goes;
   };
@@ -63,7 +63,7 @@ returns c =
             let is = step_is_markup context c.args.cursor.now.text.now _ s i b c.as_bytes-bytes.ensures.value h.here (ap (λ (xs : List ℕ). slice_index xs c.args.cursor.now.pos) c.as_bytes-bytes.ensures.value ∙ c.requires.here) c.if-cursor-bytes.false refl (λ e. absurd (omega (arith, c.if-next-le63.false, e))) in
             let sees : IsInState context.limit end s c.args.cursor.now c.element_of_name.new.builder = rw same h in
             rw (is, ne_eqb b 63 (λ e. absurd (omega (arith, c.if-next-le63.false, e))), ne_eqb b 47 (λ e. absurd (omega (arith, c.if-next-le63.false, e))))
-            (read.value less context end s c.args.cursor.now _ refl refl sees);
+            (read.value less context end s c.args.cursor.now _ around.1 refl refl sees);
         other = λ no. absurd (cc no);
         goes = record { source = c.element_of_name.ensures.goes.source; fine = read.fine };
       };

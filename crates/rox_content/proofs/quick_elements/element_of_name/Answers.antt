@@ -22,7 +22,7 @@ start_tag_of_name-requires c = grind (arith, below_last)
 
 pub returns : goal.returns
 returns c = record {
-  value = λ _ context end s _ h.
+  value = λ _ context end s main h.
       let b = c.args.builder.now in
       let old = b.tables in
       let split = c.in-Some.ensures.some in
@@ -36,7 +36,7 @@ returns c = record {
       let tg : Tagged old old t (scope_of s.stack) x.tag = subst (λ (a : List NamespaceDecl). Tagged old old t a x.tag) sc x.tagged in
       let cut = cut_off context.values.main s.stack in
       let adds = c.put_open.ensures.adds.value end e s.openings_left s x.tag h.shows (sym h.here) (is_opening old old t (scope_of s.stack) x.tag pos tg x.starts) in
-      rw (tag_is context src s pos cut _ _ _ x.tag t.empty s.openings_left e h.here refl sc h.attributes h.namespaces (x.read context.values cut s.openings_left)
+      rw (tag_is context src s pos cut _ _ _ x.tag t.empty s.openings_left e h.here refl sc h.attributes h.namespaces (x.read context.values main cut s.openings_left)
       ∙ ap (λ (y : Bool). lifted (opened_by context.limit s x.tag y s.openings_left e)) c.in-Some-start_tag_of_name.ensures.opens)
       (open_stepped context.limit end s.openings_left s _ old old b.nodes_limit c.put_open.new.self (Ok tt) t (scope_of s.stack) x.tag tg h.namespaces h.attributes h.limit_is (c.put_open.ensures.adds.kept.openings_left ∙ h.openings_left_is) c.put_open.ensures.adds.kept.tables c.put_open.ensures.adds.kept.limit adds);
   other = λ no. absurd (cc no);
@@ -53,7 +53,7 @@ returns c = record {
         source = refl;
         fine = fine_more (Ok tt) b.tables b.opened.items c.put_open.new.self src t
             (fine_by b.tables b.tables t _ x.tag b.opened.items x.tagged c.requires.room.fine) c.put_open.ensures.adds.kept.tables c.put_open.ensures.adds.opened x.tagged.element.scope_within x.tagged.once (namespace_by b.tables b.tables t _ x.tag x.tagged)
-            (λ o by. opened_named context fault.NoRootNode _ _ _ src cursor.pos 0 _ _ t o cursor.utf8 c.requires.here (x.read context fault.NoRootNode 0) x.tagged.name x.tagged.name_end x.starts by);
+            (λ o by. opened_named context fault.NoRootNode _ _ _ src cursor.pos 0 _ _ t o cursor.utf8 c.requires.here (x.read context refl fault.NoRootNode 0) x.tagged.name x.tagged.name_end x.starts by);
       };
 }
 
@@ -62,7 +62,7 @@ put_open-requires c =
     let x = c.in-Some-start_tag_of_name.ensures.read in
     let t = c.in-Some-start_tag_of_name.bare.tag in
     let context : Values = record { main = true; entities = []; opener = λ text i openings_left. Ok ([], openings_left) } in
-    let named = tag_is_named context fault.NoRootNode _ _ _ c.args.cursor.now.text.now c.args.cursor.now.pos 0 _ _ t c.args.cursor.now.utf8 c.requires.here (x.read context fault.NoRootNode 0) x.tagged.name x.tagged.name_end x.starts in
+    let named = tag_is_named context fault.NoRootNode _ _ _ c.args.cursor.now.text.now c.args.cursor.now.pos 0 _ _ t c.args.cursor.now.utf8 c.requires.here (x.read context refl fault.NoRootNode 0) x.tagged.name x.tagged.name_end x.starts in
     record {
       row =
           let split = c.in-Some.ensures.some in

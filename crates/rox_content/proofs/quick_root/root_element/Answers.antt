@@ -69,7 +69,7 @@ returns-then-read c =
     let first = first_below cursor b _ c.in-Some.read c.requires (omega arith) (record { nodes = refl; opened = refl; pending = refl; joined = refl; limit = refl; openings_left = refl }) x in
     let r = leaf_reads b _ _ [] cursor.text.now cursor.pos c.in-Some.read first c.if-read.true c.put_leaf.ensures in
     record {
-      value = λ _ context end s h. r.value (omega (arith, x.short, x.plain.cut.0)) context end s cursor _ refl refl h;
+      value = λ _ context end s main h. r.value (omega (arith, x.short, x.plain.cut.0)) context end s cursor _ main refl refl h;
       same = λ is. absurd (cc is);
       other = λ is. absurd (cc is);
       goes = λ _. record { source = refl; fine = r.fine };
@@ -83,7 +83,7 @@ returns c =
     let first = first_below cursor b _ c.in-Some.read c.requires (omega arith) (record { nodes = refl; opened = c.reserve_exact.ensures.items; pending = refl; joined = refl; limit = refl; openings_left = refl }) x in
     let r = open_reads b _ _ [] cursor.text.now cursor.pos c.in-Some.read first c.if-read.false c.put_open.ensures in
     record {
-      value = λ _ context end s h. r.value (omega (arith, x.short, x.plain.cut.0)) context end s cursor _ refl refl h;
+      value = λ _ context end s main h. r.value (omega (arith, x.short, x.plain.cut.0)) context end s cursor _ main refl refl h;
       same = λ is. absurd (cc is);
       other = λ is. absurd (cc is);
       goes = λ _. record { source = refl; fine = r.fine };

@@ -2,7 +2,6 @@ use Rattle.std.proofs.Common.{◌≡◌, ◌+◌, ◌-◌, ◌++◌, ℕ, false,
 use Rattle.std.proofs.lemmas.Result.{err_from_is_err_and}
 use Rattle.rox_reading.specs.Machine.{value_opener}
 use Rattle.rox_scan.specs.Views.{replacement_view}
-use Rattle.rox_values.proofs.BitLemmas.{kind_may, kind_tested}
 use Rattle.rox_values.proofs.PartLemmas.{value_opens, value_fails, value_opens_fails, value_done}
 use Rattle.rox_values.proofs.PlainTexts.{plain_reads, to_end}
 use Rattle.rox_values.proofs.ValueOpening.{opens_err, opens_reads, opens_refuses}
@@ -43,9 +42,6 @@ value_text-bits-init t c = record {
   reads = λ es bits declared enough. (bits, (enough, refl));
 }
 
-pub value_text-put_plain_bits-at-requires : goal.value_text-put_plain_bits-at-requires
-value_text-put_plain_bits-at-requires t c = grind (arith, kind_tested)
-
 pub value_text-returns : goal.value_text-returns
 value_text-returns t c = λ es bits declared enough.
     let l = c.bits in
@@ -57,7 +53,7 @@ value_text-returns-then-at-stop t c = λ es bits declared enough.
     let main = c.args.context.main in
     let opener = value_opener es c.args.context.depth_left main in
     let r = l.invariant.reads es bits declared enough in
-    let p = c.put_plain_bits-at.ensures.puts.reads main r.0 (rw c.text_kind-kind.ensures (kind_may main)) r.1.0 in
+    let p = c.put_plain_bits-at.ensures.puts.reads r.0 r.1.0 in
     sym (p.1.1 es opener l.openings_left ∙ r.1.1) ∙ value_done main es opener l.openings_left (string_bytes c.put_plain_bits-at.new.out) _ _ _ _ (omega arith)
 
 pub value_text-returns-in_err-named : goal.value_text-returns-in_err-named
@@ -66,7 +62,7 @@ value_text-returns-in_err-named t c = λ es bits declared enough.
     let main = c.args.context.main in
     let opener = value_opener es c.args.context.depth_left main in
     let r = c.bits.invariant.reads es bits declared enough in
-    let q = c.put_plain_bits-at.ensures.puts.reads main r.0 (rw c.text_kind-kind.ensures (kind_may main)) r.1.0 in
+    let q = c.put_plain_bits-at.ensures.puts.reads r.0 r.1.0 in
     rw (p.1, p.2) (grind (arith, value_fails))
 
 pub value_text-returns-in_err-openings_left : goal.value_text-returns-in_err-openings_left
@@ -75,7 +71,7 @@ value_text-returns-in_err-openings_left t c = λ es bits declared enough.
     let main = c.args.context.main in
     let opener = value_opener es c.args.context.depth_left main in
     let r = c.bits.invariant.reads es bits declared enough in
-    let q = c.put_plain_bits-at.ensures.puts.reads main r.0 (rw c.text_kind-kind.ensures (kind_may main)) r.1.0 in
+    let q = c.put_plain_bits-at.ensures.puts.reads r.0 r.1.0 in
     rw (p.1, p.2) (grind (arith, value_opens_fails))
 
 pub value_text-bits-preserved : goal.value_text-bits-preserved
@@ -85,7 +81,7 @@ value_text-bits-preserved t c = record {
       let main = c.args.context.main in
       let opener = value_opener es c.args.context.depth_left main in
       let r = c.bits.invariant.reads es bits declared enough in
-      let q = c.put_plain_bits-at.ensures.puts.reads main r.0 (rw c.text_kind-kind.ensures (kind_may main)) r.1.0 in
+      let q = c.put_plain_bits-at.ensures.puts.reads r.0 r.1.0 in
       let left = q.0 in
       let room = q.1.0 in
       let on = c.in_ok-named.ensures.onward in

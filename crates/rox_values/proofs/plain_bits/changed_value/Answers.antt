@@ -1,6 +1,5 @@
 use Rattle.std.proofs.Common.{◌≡◌, ◌<◌, length, slice_range, arith, string_bytes}
-use Rattle.rox_values.specs.declared.plain_bits.TextKind.TheVariants as kind_of
-use Rattle.rox_values.proofs.BitLemmas.{front_put, special_cut, tested_on, whole_value}
+use Rattle.rox_values.proofs.BitLemmas.{front_put, special_cut, whole_value}
 use Rattle.rox_values.proofs.SpacedLemmas.{spaced_value, whole_runs}
 use Rattle.rox_values.proofs.plain_bits.changed_value.Goals as goal
 
@@ -15,7 +14,6 @@ put_plain_bits-requires c =
     record {
       start = mid;
       stop = c.requires.stop;
-      tested = tested_on kind_of.Either c.args.text.now c.args.start c.args.first c.args.stop c.utf8.text c.requires.start mid c.requires.stop c.requires.front.onward (λ some. c.requires.chars);
     }
 
 pub returns-then-is_spaced : goal.returns-then-is_spaced
@@ -27,15 +25,15 @@ returns-then-is_spaced c =
     let e = c.requires.front in
     let on = e.onward in
     let all = whole_runs src i c.args.first stop e (c.is_spaced.ensures c.if-is_spaced.true) in
-    spaced_value c.spaced_text.result src c.range.result.now i stop c.utf8.text (omega (arith, on, less)) c.requires.start c.requires.stop c.requires.chars all c.range.ensures.value c.spaced_text.ensures
+    spaced_value c.spaced_text.result src c.range.result.now i stop c.utf8.text (omega (arith, on, less)) c.requires.start c.requires.stop all c.range.ensures.value c.spaced_text.ensures
 
 pub returns : goal.returns
-returns c = λ main es opener openings_left.
+returns c = λ es opener openings_left.
     let src = c.args.text.now in
     let i = c.args.start in
     let j = c.args.first in
     let put = rw (c.is_err.ensures.negation, c.if-is_err.false) at c.push_str.ensures.bytes in
     let front : string_bytes c.push_str.new.self ≡ slice_range src i j = rw (c.in-Ok.ensures.bytes, c.range-2.ensures.value) at put in
-    let f = front_put src (string_bytes c.push_str.new.self) c.args.stop i j c.utf8.text (record { start = c.requires.start; stop = c.requires.stop; tested = λ some. c.requires.chars }) c.requires.before c.requires.front front in
-    let read = whole_value main es opener openings_left src (string_bytes c.push_str.new.self) _ c.args.stop i j c.put_plain_bits.result f c.put_plain_bits.ensures.puts (omega (arith, c.if-put_plain_bits-stop.false)) in
+    let f = front_put src (string_bytes c.push_str.new.self) c.args.stop i j (record { start = c.requires.start; stop = c.requires.stop }) c.requires.before c.requires.front front in
+    let read = whole_value es opener openings_left src (string_bytes c.push_str.new.self) _ c.args.stop i j c.put_plain_bits.result f c.put_plain_bits.ensures.puts (omega (arith, c.if-put_plain_bits-stop.false)) in
     grind arith

@@ -3,8 +3,8 @@ use Rattle.rox_values.proofs.BitLemmas.{cut_short, outer_stretch}
 use Rattle.rox_values.proofs.StopLemmas.{stretch_stops}
 use Rattle.rox_values.proofs.plain_bits.stretch_end.Goals as goal
 
-pub returns-clause-some : goal.returns-clause-some
-returns-clause-some c =
+pub returns-then-main-clause-some : goal.returns-then-main-clause-some
+returns-then-main-clause-some c =
     let src = c.args.text.now in
     let stop = c.args.stop in
     let near = c.skip_set.ensures in
@@ -12,7 +12,7 @@ returns-clause-some c =
     let on = near.onward in
     let before = c.requires.begins.before in
     let e = cut_short src stop c.args.at c.skip_set.result c.min.result c.requires.begins.rest.stop.0 (omega (arith, least)) (omega (arith, least)) (omega (arith, least, on, before)) (λ less. omega (arith, least, less)) near in
-    outer_stretch c.args.kind src stop c.args.at c.min.result c.in_default.not-Replacement c.utf8.text c.requires.begins.rest before c.requires.plain e
+    rw c.if-main.true (outer_stretch src stop c.args.at c.min.result c.requires.begins.rest before c.requires.plain e)
 
 pub returns-in-Err-clause-none : goal.returns-in-Err-clause-none
-returns-in-Err-clause-none c = rw c.in-Replacement.is (stretch_stops c.args.text.now c.args.at c.args.stop _ c.requires.plain c.in-Err.ensures.value)
+returns-in-Err-clause-none c = rw c.if-main.false (stretch_stops c.args.text.now c.args.at c.args.stop _ c.requires.plain c.in-Err.ensures.value)

@@ -1,13 +1,13 @@
-use Rattle.std.proofs.Common.{refl, ◌∙◌, arith}
+use Rattle.std.proofs.Common.{refl, arith}
 use Rattle.rox_sections.proofs.PlainReads.{fine_same}
-use Rattle.rox_sections.proofs.quick_data.put_main_line_end.Goals as goal
+use Rattle.rox_sections.proofs.quick_data.read_line_end.Goals as goal
 
 pub returns : goal.returns
 returns c =
     let less = c.if-end-gt-MOST_BYTES.false in
     let read = c.put_line_end-end.ensures in
     record {
-      value = λ _ context end s main h. read.value (omega (arith, less)) context end s c.args.cursor.now _ (main ∙ c.if-not-main.false) refl refl h;
+      value = λ _ context end s main h. read.value (omega (arith, less)) context end s c.args.cursor.now _ main refl refl h;
       other = λ no. absurd (cc no);
       ready = λ _. read.ready (omega (arith, less));
       moves = λ _. read.moves (omega (arith, less));
