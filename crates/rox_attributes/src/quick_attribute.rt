@@ -65,7 +65,7 @@ fn name_and_value_start<'input>(
 /// Returns the attribute at `place`, however it is written, or `None` if there is none. Its value must not refer to an entity that
 /// is not predefined, and it is owned if it needs a replacement. Also returns `None` if memory is refused, which sets `lacking`.
 #[inline(always)]
-fn any_attribute<'input>(
+pub fn any_attribute<'input>(
     alloc: Global,
     text: &'input str,
     place: NamePlace,

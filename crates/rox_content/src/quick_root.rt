@@ -33,8 +33,8 @@ pub fn root_element<'input>(cursor: &mut Cursor<'input>, builder: &mut Builder<'
         return RootLook::NotRead;
     }
     let (text, start) = (cursor.text, cursor.pos);
-    let (tables, seen) = (&mut builder.tables, &mut builder.buffers.seen);
-    let Ok(look) = first_tag(text, start, tables, seen) else {
+    let (tables, buffers) = (&mut builder.tables, &mut builder.buffers);
+    let Ok(look) = first_tag(text, start, tables, buffers) else {
         return RootLook::Lacking;
     };
     let Some(read) = look else {

@@ -42,7 +42,7 @@ use std::alloc::{AllocError, Global};
 pub const MOST_ATTRIBUTES: usize = 4294967294;
 
 /// The number of attributes for which the buffer of a tag gets room with its first.
-const ROOM_OF_A_TAG: usize = 11;
+pub const ROOM_OF_A_TAG: usize = 11;
 
 /// Returns the storage of a text: borrowed if it is a slice of the source, otherwise a copy of `scratch`.
 #[inline]

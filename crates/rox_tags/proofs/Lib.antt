@@ -4,3 +4,4 @@ pub mod OwnNames
 pub mod WholeTags
 pub mod Repeating
 pub mod RootTags
+pub mod DeferredNames

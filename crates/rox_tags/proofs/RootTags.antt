@@ -24,10 +24,10 @@ use Rattle.rox_names.specs.declared.start_tag.StartTag.{StartTag}
 use Rattle.rox_starts.specs.ElementRow.{IsElementFrom}
 use Rattle.rox_tags.specs.PlainTag.{IsPlainTag}
 use Rattle.rox_tags.specs.TagAttributes.{AreNoBindings, ArePlainAttributes, HasRootScope, holding}
-use Rattle.rox_tags.specs.declared.own_declaration.TagScope.{TagScope}
 use Rattle.rox_starts.proofs.Starting.{tag_made, tested_known, tested_passes}
 use Rattle.rox_tags.proofs.TagAttributes.{has_scope, plain_count, root_scopes, scope_declares, slice_whole}
 use Rattle.rox_tags.specs.RootTag.{IsBlank}
+use Rattle.rox_tags.specs.DeferredNames.{of_root}
 
 -- ---- the scope of a root element
 
@@ -53,10 +53,6 @@ root_lists t h = grind (arith, slice_whole)
 
 listed_nothing : (own : List NamespaceDecl) → listed [] own ≡ listable_of own
 listed_nothing own = append-nil (listable_of own)
-
--- the scope of a root element
-abbrev pub of_root : TagScope
-of_root = record { scope = 1; declares = true }
 
 pub root_tagged : (blank old new : ElementTables) (src : List ℕ) (i n end : ℕ) (t : StartTag) (from namespace : ℕ) → IsBlank blank → attribute_rows blank.attributes ≡ attribute_rows old.attributes
     → ArePlainAttributes of_root old new src n end t.empty → qname_at src (i + 1) ≡ Ok (name_view t.name, n) → bytes_eq (name_view t.name).prefix (word_text Xmlns) ≡ false

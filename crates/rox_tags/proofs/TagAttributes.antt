@@ -141,7 +141,7 @@ turn_item src i j n a held context cut known openings_left main h within item =
     rw (h.start, h.end) refl in
     rw ((lt-leb (length src) i within), item, v) (ap (λ (x : Attribute). lifted (taken known x held) >>= λ y. attributes_at n context cut known src a.end openings_left y) view)
 
-taken_other : (known : List NamespaceDecl) (a : Attribute) (held : TagSoFar) → is_namespace_decl a.name ≡ false → taken known a held ≡ Ok (record { own = held.own; attributes = held.attributes ++ a ∷ [] })
+pub taken_other : (known : List NamespaceDecl) (a : Attribute) (held : TagSoFar) → is_namespace_decl a.name ≡ false → taken known a held ≡ Ok (record { own = held.own; attributes = held.attributes ++ a ∷ [] })
 taken_other known a held other = rw other refl
 
 pub taken_declared : (known : List NamespaceDecl) (a : Attribute) (held after : TagSoFar) → is_namespace_decl a.name ≡ true → declared known a held ≡ Ok after → taken known a held ≡ Ok after
@@ -257,12 +257,12 @@ plain_declared namespaces next own after src start old i j now a g onward spaces
 
 -- ---- the end of the tag
 
-abbrev IsEnd : TagItem → Bool → Type 0
+abbrev pub IsEnd : TagItem → Bool → Type 0
 IsEnd (more raw) empty = ⊥
 IsEnd opened empty = empty ≡ false
 IsEnd closed empty = empty ≡ true
 
-end_is : (src : List ℕ) (i n j : ℕ) (item : TagItem) (empty : Bool) (held : TagSoFar) (context : Values) (cut : Fault) (known : List NamespaceDecl) (openings_left : ℕ) → i < length src → tag_item_at src i ≡ Ok (item, j)
+pub end_is : (src : List ℕ) (i n j : ℕ) (item : TagItem) (empty : Bool) (held : TagSoFar) (context : Values) (cut : Fault) (known : List NamespaceDecl) (openings_left : ℕ) → i < length src → tag_item_at src i ≡ Ok (item, j)
     → IsEnd item empty → attributes_at (suc n) context cut known src i openings_left held ≡ Ok (record { held = held; empty = empty; openings_left = openings_left }, j)
 unfolding attributes_at
 end_is src i n j (more raw) empty held context cut known openings_left within is h = absurd h
@@ -339,7 +339,7 @@ has_scope t keys own h = grind (arith, root_scope)
 pub scope_declares : (t : ElementTables) (own : List NamespaceDecl) → HasRootScope t → Declares [] [] (map namespace_view t.namespaces.items.items) t.listed.items false own → scope_in_tables t 1 ≡ listable_of own
 scope_declares t own h d = root_scope t h ∙ ap (entries (map namespace_view t.namespaces.items.items)) d.listed_are ∙ d.same
 
-begins_in : (b : Bool) (t : ElementTables) (n : ℕ) → MayBegin b t n → DeclaresIn b t t n []
+pub begins_in : (b : Bool) (t : ElementTables) (n : ℕ) → MayBegin b t n → DeclaresIn b t t n []
 begins_in false t n h = record { others = refl; scope = h; none = refl }
 begins_in true t n (h, one) =
     let none : map namespace_view t.namespaces.items.items ≡ [] = ap (map namespace_view) h.namespaces in

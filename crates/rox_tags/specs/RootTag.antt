@@ -1,5 +1,5 @@
 -- The start tag of a root element that the fast path reads, with its declarations.
-use Rattle.std.specs.Prelude.{◌≡◌, ℕ, ◌<◌, ◌^◌, List, [], ◌∷◌, ◌++◌, Option, Some, None, length, map, IfSome, OnOk, Result}
+use Rattle.std.specs.Prelude.{◌≡◌, ℕ, ◌<◌, ◌^◌, List, [], ◌∷◌, ◌++◌, Option, Some, None, length, map, take, IfSome, OnOk, Result}
 use Rattle.rox_rows.specs.Rows.{AttributeRow, attribute_rows}
 use Rattle.rox_scopes.specs.NamespaceViews.{namespace_view}
 use Rattle.rox_names.specs.TagScopes.{lists_in}
@@ -50,6 +50,14 @@ pub record BeginsScopes {E : Type 0} (old new : ElementTables) (result : Result 
   pub listed : OnOk result (new.listed.items ≡ [])
   pub present : OnOk result (AreNoBindings new.present)
   pub others : new ≡ record old { listed = new.listed; scopes = new.scopes; present = new.present }
+
+-- Nothing is declared, the only scope is that of the root node, and the first `n` attributes are left.
+pub record TakesBack {E : Type 0} (old new : ElementTables) (n : ℕ) (result : Result (Unit {0}) E) : Type 0 where
+  pub scopes : OnOk result (new.scopes.items ≡ first_places 0 ∷ [])
+  pub listed : OnOk result (new.listed.items ≡ [])
+  pub present : OnOk result (AreNoBindings new.present)
+  pub namespaces : new.namespaces.items.items ≡ []
+  pub rows : attribute_rows new.attributes ≡ take n (attribute_rows old.attributes)
 
 -- The scope of the root element, which lists nothing, follows that of the root node.
 pub record BeginsOwn {E : Type 0} (old new : ElementTables) (result : Result (Unit {0}) E) : Type 0 where

@@ -66,14 +66,14 @@ fn empty_end(text: &str, at: usize) -> Option<TagEnd>
 
 /// The item after white space: its offset, and whether it may be an attribute.
 #[derive(Clone, Copy)]
-struct NextItem {
-    at: usize,
-    may_begin: bool,
+pub(crate) struct NextItem {
+    pub at: usize,
+    pub may_begin: bool,
 }
 
 /// Returns the item after the white space that starts at `at`, before the last byte. A name starts with no byte up to `>`.
 #[inline(always)]
-fn next_item(text: &str, at: usize) -> NextItem
+pub(crate) fn next_item(text: &str, at: usize) -> NextItem
     requires { IsBeforeLast text.now at }
     ensures end { Finds text.now at result.at (run_end is_space text.now at) }
     ensures begins { result.may_begin ≡ true → (at < result.at)
@@ -95,7 +95,7 @@ fn next_item(text: &str, at: usize) -> NextItem
 
 /// Returns the end of a start tag, if it is at `at`.
 #[inline(always)]
-fn tag_end(text: &str, at: usize) -> Option<TagEnd>
+pub(crate) fn tag_end(text: &str, at: usize) -> Option<TagEnd>
     ensures { EndsTag text.now at result }
 {
     if is_at(text, at, b'>') {

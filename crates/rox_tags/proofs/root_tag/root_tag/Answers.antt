@@ -3,8 +3,8 @@ use Rattle.rox_tags.proofs.TagAttributes.{has_scope}
 use Rattle.rox_tags.proofs.RootTags.{root_tagged}
 use Rattle.rox_tags.proofs.root_tag.root_tag.Goals as goal
 
-pub tag_attributes-requires : goal.tag_attributes-requires
-tag_attributes-requires c = record { cut = c.in_ok-name.ensures.name.cut; short = c.requires.short; begins = (c.requires.begins, refl) }
+pub root_attributes-requires : goal.root_attributes-requires
+root_attributes-requires c = record { cut = c.in_ok-name.ensures.name.cut; short = c.requires.short; begins = (c.requires.begins, refl) }
 
 pub namespace_in_scope-requires : goal.namespace_in_scope-requires
 namespace_in_scope-requires c = grind (arith, has_scope)
@@ -15,7 +15,7 @@ element_of-element-requires c = grind (arith, length-append)
 pub returns : goal.returns
 returns c =
     let old = c.args.elements.now in
-    let new = c.tag_attributes.new.elements in
+    let new = c.root_attributes.new.elements in
     let src = c.args.text.now in
     let i = c.args.start in
     let name = c.in_ok-name.name in
