@@ -1,5 +1,5 @@
 -- Where a value ends that has a reference, or white space which is no space.
-use Rattle.std.proofs.Common.{◌≡◌, ℕ, ◌+◌, ◌-◌, ◌<◌, ◌≤◌, ◌==◌, ◌||◌, true, false, not, List, Ok, length, get_or, slice_index, slice_range, drop, take, inl, inr, refl, sym, ap, ◌∙◌, arith, get_or-drop, length-drop, IsUtf8, IsCharBoundary, get_or-take, length-take-le}
+use Rattle.std.proofs.Common.{◌≡◌, ℕ, ◌+◌, ◌-◌, ◌<◌, ◌≤◌, ◌==◌, ◌||◌, Bool, true, false, not, List, Ok, length, get_or, slice_index, slice_range, drop, take, inl, inr, refl, sym, ap, ◌∙◌, arith, get_or-drop, length-drop, IsUtf8, IsCharBoundary, get_or-take, length-take-le}
 use Rattle.std.specs.List.{list_any}
 use Rattle.std.proofs.lemmas.Bool.{cases_lt}
 use Rattle.std.proofs.lemmas.Bool.Decides.{nat_tests}
@@ -98,8 +98,8 @@ pub ends_before : (src : List ℕ) (i j e : ℕ) → e ≤ length src → EndsSe
 ends_before src i j e le f = grind (arith, length-take-le, get_or-take)
 
 -- a value that is not as it stands
-pub value_spaced : (es : List Entity) (opener : ValueInclusion) (src v : List ℕ) (i j openings_left : ℕ) → is_verbatim_value (slice_range src i j) ≡ false
-    → value_text true es opener (j - i) src j i openings_left ≡ Ok (v, openings_left)
-    → value_at true es opener src i j openings_left ≡ Ok (record { value = v; borrowed = false }, openings_left)
+pub value_spaced : (main : Bool) (es : List Entity) (opener : ValueInclusion) (src v : List ℕ) (i j openings_left : ℕ) → is_verbatim_value (slice_range src i j) ≡ false
+    → value_text main es opener (j - i) src j i openings_left ≡ Ok (v, openings_left)
+    → value_at main es opener src i j openings_left ≡ Ok (record { value = v; borrowed = false }, openings_left)
 unfolding value_at
-value_spaced es opener src v i j openings_left changed h = rw (changed, h) refl
+value_spaced main es opener src v i j openings_left changed h = rw (changed, h) refl

@@ -1,11 +1,11 @@
--- Attributes that the fast path reads and puts into their table: their values refer to no declared entity.
+-- Attributes that the fast path reads and puts into their table.
 use Rattle.std.specs.Prelude.{◌≡◌, ℕ, ◌+◌, ◌<◌, ◌≤◌, ◌^◌, true, false, List, Option, Some, Ok, drop, length, map, slice_index, IfSome, IfNone, IsCharBoundary}
 use Rattle.std.specs.List.{AllByRecursion}
 use Rattle.rox_grammar.specs.Written.{NamespaceDecl, is_namespace_decl, Name}
-use Rattle.rox_grammar.specs.Entities.{Entity}
 use Rattle.rox_grammar.specs.Failures.{name_view}
 use Rattle.rox_reading.specs.Markup.{attribute_at}
-use Rattle.rox_reading.specs.Values.{ValueInclusion, value_at}
+use Rattle.rox_reading.specs.Tags.{Values}
+use Rattle.rox_reading.specs.Values.{value_at}
 use Rattle.rox_rows.specs.Rows.{AttributeRow, NamespaceWithin, attribute_rows, attribute_uri}
 use Rattle.rox_scopes.specs.ScopeRows.{AreScopes}
 use Rattle.rox_scopes.specs.NamespaceViews.{namespace_view}
@@ -23,7 +23,9 @@ use Rattle.rox_grammar.specs.Tree as tree
 use Rattle.rox_grammar.specs.WellNamed.{is_known}
 use Rattle.rox_scopes.specs.Bindings.{FindsBinding}
 use Rattle.rox_rows.specs.declared.row.AttributeNamespace.{AttributeNamespace}
+use Rattle.rox_values.specs.DeclaredEntities.{AreMainValues}
 use Rattle.rox_attributes.specs.declared.quick_attribute.NamedAttribute.{NamedAttribute}
+use Rattle.rox_attributes.specs.declared.quick_attribute.TagContext.{TagContext}
 use Rattle.rox_verbatim.specs.declared.quick_name.NamePlace.{NamePlace}
 use Rattle.rox_verbatim.specs.PlainNames.{IsAttributeName}
 use Rattle.rox_verbatim.specs.PlainValues.{HasPlainValue}
@@ -46,14 +48,14 @@ pub record IsAttributeNamespace (t : ElementTables) (n : ℕ) (name : Name) (s :
       → attribute_uri (map namespace_view t.namespaces.items.items) s ≡ tree.attribute_namespace ds name
   pub known : (ds : List NamespaceDecl) → FindsBinding (map namespace_view t.namespaces.items.items) (few_in t n) t.present ds → is_known ds name ≡ true
 
--- The attribute `a` is read at `i` in the main text, whatever is declared.
-pub record IsPlainAttribute (src : List ℕ) (i : ℕ) (a : UnresolvedAttribute) : Type 0 where
+-- The attribute `a` is read at `i`, if values are read `such`.
+pub record IsPlainAttribute (such : Values → Type 0) (src : List ℕ) (i : ℕ) (a : UnresolvedAttribute) : Type 0 where
   pub value_end : ℕ
   pub read : attribute_at src i ≡ Ok (record { start = i; name = name_view a.name; name_end = a.name_end; value_start = a.value_start; value_end = value_end }, a.end)
   pub start : a.start ≡ i
   pub end : a.end ≡ value_end + 1
-  pub value : (es : List Entity) (opener : ValueInclusion) (openings_left : ℕ)
-      → value_at true es opener src a.value_start value_end openings_left ≡ Ok (record { value = storage_bytes a.value; borrowed = is_borrowed a.value }, openings_left)
+  pub value : (values : Values) → such values → (openings_left : ℕ)
+      → value_at values.main values.entities values.opener src a.value_start value_end openings_left ≡ Ok (record { value = storage_bytes a.value; borrowed = is_borrowed a.value }, openings_left)
   pub cut : IsCharBoundary src a.end
   pub onward : i < a.end
   -- The local name fits before `a.name_end`, and `=` and a quote fit before the value.
@@ -62,9 +64,9 @@ pub record IsPlainAttribute (src : List ℕ) (i : ℕ) (a : UnresolvedAttribute)
 
 -- A plain attribute from `i` up to `j`, which is not a declaration, was put after those of its tag, which start at the row
 -- `from`.
-pub record AddsPlain (namespaces : List NamespaceDecl) (few : Option (List ℕ)) (present : PrefixBindings) (from : ℕ) (src : List ℕ) (i j : ℕ) (old new : List AttributeRow) : Type 0 where
+pub record AddsPlain (such : Values → Type 0) (namespaces : List NamespaceDecl) (few : Option (List ℕ)) (present : PrefixBindings) (from : ℕ) (src : List ℕ) (i j : ℕ) (old new : List AttributeRow) : Type 0 where
   pub one : UnresolvedAttribute
-  pub plain : IsPlainAttribute src i one
+  pub plain : IsPlainAttribute such src i one
   pub other : is_namespace_decl (name_view one.name) ≡ false
   pub added : AddsResolved namespaces few present from old new one
   pub end : one.end ≡ j
@@ -97,15 +99,15 @@ pub record MayPutNamed (src : List ℕ) (a : NamedAttribute) (t : ElementTables)
   pub value : HasPlainValue src (a.name.end + 2) (slice_index src (a.name.end + 1)) a.value.end a.value.text.now
 
 -- The attribute from `i` up to `j` was put after those that `s` records, or none was if `j` is 0.
-pub record PutsPlain (old new : ElementTables) (n : ℕ) (s after : SeenNames) (src : List ℕ) (i j : ℕ) : Type 0 where
-  pub added : 0 < j → AddsPlain (map namespace_view old.namespaces.items.items) (few_in old n) old.present s.from src i j (attribute_rows old.attributes) (attribute_rows new.attributes)
+pub record PutsPlain (old new : ElementTables) (t : TagContext) (s after : SeenNames) (src : List ℕ) (i j : ℕ) : Type 0 where
+  pub added : 0 < j → AddsPlain (AreMainValues t.context.now) (map namespace_view old.namespaces.items.items) (few_in old t.scope) old.present s.from src i j (attribute_rows old.attributes) (attribute_rows new.attributes)
   pub others : new ≡ record old { attributes = new.attributes }
   pub from : after.from ≡ s.from
   pub seen : 0 < j → AreSeen after (attribute_rows new.attributes)
   pub refused : j ≡ 0 → attribute_rows new.attributes ≡ attribute_rows old.attributes
 
 -- The attribute from `i` was put, up to the offset returned, or none was.
-pub record PutsSome (old new : ElementTables) (n : ℕ) (s after : SeenNames) (src : List ℕ) (i : ℕ) (result : Option ℕ) : Type 0 where
-  pub put : IfSome result (λ j. PutsPlain old new n s after src i j)
+pub record PutsSome (old new : ElementTables) (t : TagContext) (s after : SeenNames) (src : List ℕ) (i : ℕ) (result : Option ℕ) : Type 0 where
+  pub put : IfSome result (λ j. PutsPlain old new t s after src i j)
   pub place : IfSome result (λ j. 0 < j)
-  pub none : IfNone result (PutsPlain old new n s after src i 0)
+  pub none : IfNone result (PutsPlain old new t s after src i 0)

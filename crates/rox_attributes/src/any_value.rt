@@ -1,6 +1,5 @@
-//! Any attribute values of the main text by the fast path, also those with references to characters or white space other than
-//! spaces (XML 1.0 sections 3.3.3, 4.1 and 4.6). A value that refers to an entity is not read, unless that is predefined: then it
-//! gives its character whether or not it is declared too.
+//! Any attribute values of the main text by the fast path, also those with references or white space other than spaces (XML 1.0
+//! sections 3.3.3, 4.1 and 4.4.5).
 
 ghost use Rattle.std.specs.Prelude.{◌≤◌, IfSome, true, length, string_bytes, ◌<◌, false, ◌≡◌, ◌==◌, slice_index};
 ghost use Rattle.rox_bytes.specs.ByteSets.{EndsSet, is_stretch_byte};
@@ -10,14 +9,18 @@ ghost use Rattle.rox_scan.specs.Lookahead.{IsLookahead, none_changes, ends_value
 ghost use Rattle.rox_attributes.specs.SpacedBytes.{IsAnyValue};
 ghost use Rattle.rox_verbatim.specs.PlainValues.{BeginsValue, EndsVerbatim};
 ghost use Rattle.rox_reading.specs.Values.{is_special};
+ghost use Rattle.rox_seen.specs.SeenNames.{KeepsCodes};
 ghost use Rattle.rox_values.specs.PlainBits.{HasChange};
+ghost use Rattle.rox_values.specs.DeclaredEntities.{AreMainValues};
 
 use rox_bytes::byte_set::{ValueByte, skip_set};
 use rox_bytes::runs::is_at;
 use rox_scan::lookahead::{ChangedValueByte, StretchByte, after_char, changes};
 use rox_seen::recent_texts::{Recent, owned_value};
+use rox_seen::seen_names::SeenNames;
 use rox_storage::storage::StringStorage;
-use rox_values::plain_bits::changed_value;
+use rox_values::changed_value::changed_value;
+use rox_values::context::Context;
 use std::alloc::Global;
 
 /// Returns the end of the Chars from `start` on that are neither `quote` nor `<`.
@@ -109,16 +112,6 @@ fn shared_value<'input>(
     value
 }
 
-/// Returns whether a reference is at `at` to a name whose first letter no predefined name has. It names an entity, which the general
-/// reader opens.
-#[inline(always)]
-fn names_other(text: &str, at: usize) -> bool {
-    if !is_at(text, at, b'&') || at + 1 >= text.len() {
-        return false;
-    }
-    !matches!(text.as_bytes()[at + 1], b'#' | b'a' | b'g' | b'l' | b'q')
-}
-
 /// A value, and the offset at which it ends.
 #[derive(Drop)]
 pub struct AnyValue<'input> {
@@ -127,18 +120,18 @@ pub struct AnyValue<'input> {
 }
 
 /// Returns the value that starts at `start`, after the quote `quote`: a slice of the text, or an owned text if it needs a
-/// replacement. Returns `None` if it is not valid, if it refers to an entity, or if memory is refused, which sets `lacking`.
+/// replacement. Returns `None` if it is not valid, or if memory is refused, which sets `lacking` of `seen`.
 #[inline(always)]
 pub fn any_value<'input>(
-    alloc: Global,
     text: &'input str,
     start: usize,
     quote: u8,
-    recent: &mut Option<Box<Recent>>,
-    lacking: &mut bool,
+    context: &Context<'_, 'input>,
+    seen: &mut SeenNames,
 ) -> Option<AnyValue<'input>>
     requires { BeginsValue text.now start quote }
-    ensures { IfSome result (λ v. IsAnyValue text.entry.now start quote v) }
+    ensures value { IfSome result (λ v. IsAnyValue (AreMainValues context.entry.now) text.entry.now start quote v) }
+    ensures kept { KeepsCodes seen.old seen.new }
 {
     let ends = value_ends(text, start, quote)?;
     let end = ends.end;
@@ -146,11 +139,8 @@ pub fn any_value<'input>(
         let value = StringStorage::Borrowed(&text[start..end]);
         return Some(AnyValue { value, end });
     }
-    // No memory is taken for a value that is given up.
-    if names_other(text, ends.first) {
-        return None;
-    }
-    let changed = changed_value(alloc, text, start, ends.first, end, lacking)?;
-    let value = shared_value(alloc, recent, changed, lacking)?;
+    let changed = changed_value(text, start, ends.first, end, context, &mut seen.lacking)?;
+    let alloc = context.entities.allocator();
+    let value = shared_value(alloc, &mut seen.values, changed, &mut seen.lacking)?;
     Some(AnyValue { value, end })
 }

@@ -1,13 +1,15 @@
-//! Attributes by the fast path, put into their table: those whose values refer only to predefined entities (XML 1.0 sections
-//! 3.1 and 4.6). Nothing fails here: if an attribute is not read, the general step reads its tag again, from its `<`.
+//! Attributes of the main text by the fast path, put into their table (XML 1.0 section 3.1). Nothing fails here: if an attribute is
+//! not read, the general step reads its tag again, from its `<`.
 
 ghost use Rattle.std.specs.Prelude.{◌≡◌, ◌<◌, ◌+◌, ◌-◌, ◌==◌, IfSome, length, bytes_eq, false, [], slice_index};
 ghost use Rattle.rox_bytes.specs.ScanResults.{EndsNear as StartsNear};
 ghost use Rattle.rox_grammar.specs.Failures.{name_view};
 ghost use Rattle.rox_grammar.specs.Written.{Name};
+ghost use Rattle.rox_seen.specs.SeenNames.{KeepsCodes};
 ghost use Rattle.rox_verbatim.specs.PlainNames.{IsPlainName};
 ghost use Rattle.rox_verbatim.specs.PlainValues.{IsValueStart};
 ghost use Rattle.rox_attributes.specs.PlainAttribute.{HasScope, IsAttributeNamespace, IsPlainAttribute, MayPut, MayPutNamed, MayPutPart, PutsPlain, PutsSome};
+ghost use Rattle.rox_values.specs.DeclaredEntities.{AreMainValues};
 
 use crate::any_value::any_value;
 use crate::prefix_cache::find_in_slot;
@@ -23,8 +25,8 @@ use rox_names::unresolved_attribute::{CompactAttribute, UnresolvedAttribute};
 use rox_rows::row::AttributeNamespace;
 use rox_rows::stored_attribute::EXPLICIT;
 use rox_scopes::scope::few_places;
-use rox_seen::recent_texts::Recent;
 use rox_seen::seen_names::SeenNames;
+use rox_values::context::Context;
 use rox_verbatim::quick_name::{
     NameAt, NamePlace, name_of_part, name_without_prefix, prefixed_name, some_place,
 };
@@ -32,7 +34,6 @@ use rox_verbatim::quick_value::{
     UnchangedValue, any_value_start, quote_after_equals, quote_before, quote_in_text,
     unchanged_value, value_in_window,
 };
-use std::alloc::Global;
 
 /// The longest name, in bytes, that fits into a 16-byte window with `=` and a quote.
 const MOST_NAME: usize = 14;
@@ -62,24 +63,24 @@ fn name_and_value_start<'input>(
     Some((name, from))
 }
 
-/// Returns the attribute at `place`, however it is written, or `None` if there is none. Its value must not refer to an entity that
-/// is not predefined, and it is owned if it needs a replacement. Also returns `None` if memory is refused, which sets `lacking`.
+/// Returns the attribute at `place`, however it is written, or `None` if there is none. Its value is owned if it needs a
+/// replacement. Also returns `None` if memory is refused, which sets `lacking` of `seen`.
 #[inline(always)]
 pub fn any_attribute<'input>(
-    alloc: Global,
     text: &'input str,
     place: NamePlace,
-    recent: &mut Option<Box<Recent>>,
-    lacking: &mut bool,
+    context: &Context<'_, 'input>,
+    seen: &mut SeenNames,
 ) -> Option<UnresolvedAttribute<'input>>
     requires part { StartsNear text.now place.start place.part }
     requires begins { 62 < slice_index text.now place.start }
-    ensures { IfSome result (λ a. IsPlainAttribute text.entry.now place.start a) }
+    ensures read { IfSome result (λ a. IsPlainAttribute (AreMainValues context.entry.now) text.entry.now place.start a) }
+    ensures kept { KeepsCodes seen.old seen.new }
 {
     let start = place.start;
     let (name, from) = name_and_value_start(text, place)?;
     let quote = quote_before(text, from);
-    let read = any_value(alloc, text, from, quote, recent, lacking)?;
+    let read = any_value(text, from, quote, context, seen)?;
     Some(UnresolvedAttribute {
         start,
         name_end: name.end,
@@ -134,30 +135,35 @@ fn namespace_in(
     prefix_namespace(elements, scope, name.prefix, near)
 }
 
-/// Puts the attribute at `place`, however it is written, after those of its tag, which `seen` records. Its value must not refer to
-/// an entity that is not predefined. Returns the offset after it, or 0 with the table unchanged. A declaration is not put.
+/// What the attributes of a tag are read in: the scope of its element, and the context of the text, which is the main text.
+#[derive(Clone, Copy)]
+pub struct TagContext<'t, 'e, 'input> {
+    pub scope: u32,
+    pub context: &'t Context<'e, 'input>,
+}
+
+/// Puts the attribute at `place`, however it is written, after those of its tag, which `seen` records. Returns the offset after it,
+/// or 0 with the table unchanged. A declaration is not put.
 #[cold]
 #[inline(never)]
 fn put_any_attribute<'input>(
     text: &'input str,
     place: NamePlace,
     elements: &mut ElementTables<'input>,
-    scope: u32,
+    within: &TagContext<'_, '_, 'input>,
     seen: &mut SeenNames,
 ) -> usize
-    requires { MayPutPart text.now place elements.old scope seen.old }
-    ensures { PutsPlain elements.old elements.new scope seen.old seen.new text.entry.now
+    requires { MayPutPart text.now place elements.old within.now.scope seen.old }
+    ensures { PutsPlain elements.old elements.new within.entry.now seen.old seen.new text.entry.now
         place.start result }
 {
-    let alloc = *elements.attributes.items.allocator();
-    let read = any_attribute(alloc, text, place, &mut seen.values, &mut seen.lacking);
-    let Some(one) = read else {
+    let Some(one) = any_attribute(text, place, within.context, seen) else {
         return 0;
     };
     if is_namespace_decl(one.name) {
         return 0;
     }
-    let Some(namespace) = namespace_in(elements, scope, one.name, &mut seen.near) else {
+    let Some(namespace) = namespace_in(elements, within.scope, one.name, &mut seen.near) else {
         return 0;
     };
     let end = one.end;
@@ -182,15 +188,15 @@ fn put_any_attribute_at<'input>(
     text: &'input str,
     start: usize,
     elements: &mut ElementTables<'input>,
-    scope: u32,
+    within: &TagContext<'_, '_, 'input>,
     seen: &mut SeenNames,
 ) -> usize
-    requires { MayPut text.now start elements.old scope seen.old }
-    ensures { PutsPlain elements.old elements.new scope seen.old seen.new text.entry.now
+    requires { MayPut text.now start elements.old within.now.scope seen.old }
+    ensures { PutsPlain elements.old elements.new within.entry.now seen.old seen.new text.entry.now
         start result }
 {
     let part = skip_set::<PartByte>(text, start);
-    put_any_attribute(text, NamePlace { start, part }, elements, scope, seen)
+    put_any_attribute(text, NamePlace { start, part }, elements, within, seen)
 }
 
 /// An attribute whose name and value were read, with `=` and a quote right after its name, and whose namespace is known.
@@ -211,11 +217,11 @@ fn put_named_attribute<'input>(
     text: &'input str,
     read: NamedAttribute<'input>,
     elements: &mut ElementTables<'input>,
-    scope: u32,
+    within: &TagContext<'_, '_, 'input>,
     seen: &mut SeenNames,
 ) -> Option<usize>
-    requires { MayPutNamed text.now read elements.old scope seen.old }
-    ensures { PutsSome elements.old elements.new scope seen.old seen.new text.entry.now
+    requires { MayPutNamed text.now read elements.old within.now.scope seen.old }
+    ensures { PutsSome elements.old elements.new within.entry.now seen.old seen.new text.entry.now
         read.entry.start result }
 {
     let start = read.start;
@@ -224,7 +230,7 @@ fn put_named_attribute<'input>(
         return None;
     }
     if read.before >= EXPLICIT as usize {
-        return some_place(put_any_attribute_at(text, start, elements, scope, seen));
+        return some_place(put_any_attribute_at(text, start, elements, within, seen));
     }
     let one = CompactAttribute {
         start: start as u32,
@@ -251,29 +257,29 @@ fn put_prefixed_attribute<'input>(
     text: &'input str,
     place: NamePlace,
     elements: &mut ElementTables<'input>,
-    scope: u32,
+    within: &TagContext<'_, '_, 'input>,
     seen: &mut SeenNames,
 ) -> usize
-    requires { MayPutPart text.now place elements.old scope seen.old }
-    ensures { PutsPlain elements.old elements.new scope seen.old seen.new text.entry.now
+    requires { MayPutPart text.now place elements.old within.now.scope seen.old }
+    ensures { PutsPlain elements.old elements.new within.entry.now seen.old seen.new text.entry.now
         place.start result }
 {
     let NamePlace { start, part } = place;
     if !is_at(text, part, b':') {
-        return put_any_attribute(text, place, elements, scope, seen);
+        return put_any_attribute(text, place, elements, within, seen);
     }
     // The namespace is looked up first, while little else is in registers.
-    let Some(namespace) = prefix_namespace(elements, scope, &text[start..part], &mut seen.near)
-    else {
+    let prefix = &text[start..part];
+    let Some(namespace) = prefix_namespace(elements, within.scope, prefix, &mut seen.near) else {
         return 0;
     };
     let Some(name) = prefixed_name(text, start, part) else {
-        return put_any_attribute(text, place, elements, scope, seen);
+        return put_any_attribute(text, place, elements, within, seen);
     };
     let quote = quote_before(text, name.end + 2);
     let near = skip_set::<ValueByte>(text, name.end + 2);
     let Some(value) = unchanged_value(text, name.end + 2, quote, near) else {
-        return put_any_attribute(text, place, elements, scope, seen);
+        return put_any_attribute(text, place, elements, within, seen);
     };
     let read = NamedAttribute {
         start,
@@ -282,7 +288,7 @@ fn put_prefixed_attribute<'input>(
         namespace,
         value,
     };
-    let Some(behind) = put_named_attribute(text, read, elements, scope, seen) else {
+    let Some(behind) = put_named_attribute(text, read, elements, within, seen) else {
         return 0;
     };
     behind
@@ -295,23 +301,23 @@ fn put_long_attribute<'input>(
     text: &'input str,
     start: usize,
     elements: &mut ElementTables<'input>,
-    scope: u32,
+    within: &TagContext<'_, '_, 'input>,
     seen: &mut SeenNames,
 ) -> usize
-    requires { MayPut text.now start elements.old scope seen.old }
-    ensures { PutsPlain elements.old elements.new scope seen.old seen.new text.entry.now
+    requires { MayPut text.now start elements.old within.now.scope seen.old }
+    ensures { PutsPlain elements.old elements.new within.entry.now seen.old seen.new text.entry.now
         start result }
 {
     let part = skip_set::<PartByte>(text, start);
     let place = NamePlace { start, part };
     let quote = quote_after_equals(text, part);
     if quote == 0 {
-        return put_prefixed_attribute(text, place, elements, scope, seen);
+        return put_prefixed_attribute(text, place, elements, within, seen);
     }
     let name = name_without_prefix(text, start, part);
     let near = skip_set::<ValueByte>(text, part + 2);
     let Some(value) = unchanged_value(text, part + 2, quote, near) else {
-        return put_any_attribute(text, place, elements, scope, seen);
+        return put_any_attribute(text, place, elements, within, seen);
     };
     let read = NamedAttribute {
         start,
@@ -320,7 +326,7 @@ fn put_long_attribute<'input>(
         namespace: AttributeNamespace::None,
         value,
     };
-    put_named_attribute(text, read, elements, scope, seen).unwrap_or(0)
+    put_named_attribute(text, read, elements, within, seen).unwrap_or(0)
 }
 
 /// Puts the attribute that starts at `start` after those of its tag, which `seen` records. Returns the offset after it, or `None`
@@ -330,30 +336,30 @@ pub fn put_attribute<'input>(
     text: &'input str,
     start: usize,
     elements: &mut ElementTables<'input>,
-    scope: u32,
+    within: &TagContext<'_, '_, 'input>,
     seen: &mut SeenNames,
 ) -> Option<usize>
-    requires { MayPut text.now start elements.old scope seen.old }
-    ensures { PutsSome elements.old elements.new scope seen.old seen.new text.entry.now
+    requires { MayPut text.now start elements.old within.now.scope seen.old }
+    ensures { PutsSome elements.old elements.new within.entry.now seen.old seen.new text.entry.now
         start result }
 {
     if text.len() - start < WIDTH {
-        return some_place(put_long_attribute(text, start, elements, scope, seen));
+        return some_place(put_long_attribute(text, start, elements, within, seen));
     }
     let window = Window::new(text, start);
     let count = window.part_count();
     if count > MOST_NAME {
-        return some_place(put_long_attribute(text, start, elements, scope, seen));
+        return some_place(put_long_attribute(text, start, elements, within, seen));
     }
     let part = start + count;
     let place = NamePlace { start, part };
     let quote = quote_in_text(text, part);
     if quote == 0 {
-        return some_place(put_prefixed_attribute(text, place, elements, scope, seen));
+        return some_place(put_prefixed_attribute(text, place, elements, within, seen));
     }
     let name = name_without_prefix(text, start, part);
     let Some(value) = value_in_window(text, window, count + 2, quote) else {
-        return some_place(put_any_attribute(text, place, elements, scope, seen));
+        return some_place(put_any_attribute(text, place, elements, within, seen));
     };
     let read = NamedAttribute {
         start,
@@ -362,5 +368,5 @@ pub fn put_attribute<'input>(
         namespace: AttributeNamespace::None,
         value,
     };
-    put_named_attribute(text, read, elements, scope, seen)
+    put_named_attribute(text, read, elements, within, seen)
 }

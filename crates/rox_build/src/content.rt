@@ -229,7 +229,7 @@ pub fn content<'input>(
     // Each turn but the last reads at least one byte.
     for _turn in 0..cursor.text.len() {
         let rows = builder.rows_left();
-        let read = quick_constructs(cursor, builder, context.open_around, context.main, rows);
+        let read = quick_constructs(cursor, builder, &context, rows);
         if builder.is_at_root() {
             return Ok(());
         }

@@ -42,7 +42,7 @@ fn root_start<'input>(
     ensures { ParsesAs machine.tag_step context.entry cursor.old cursor.new builder.old builder.new
         result }
 {
-    match root_element(cursor, builder) {
+    match root_element(cursor, builder, &context) {
         RootLook::Read => Ok(()),
         RootLook::NotRead => element(cursor, builder, context),
         RootLook::Lacking => Err(ParseError::Memory),

@@ -2,6 +2,9 @@
 use Rattle.std.specs.Prelude.{◌≡◌, ℕ, ◌<◌, ◌^◌, true, false, List, [], ◌∷◌, ◌++◌, slice_index, vec_len, vec_capacity, IsCharBoundary}
 use Rattle.rox_rows.specs.declared.row.NodeKind.TheVariants as kind
 use Rattle.rox_names.specs.declared.open_element.OpenElement.{OpenElement}
+use Rattle.rox_reading.specs.Machine as machine
+use Rattle.rox_values.specs.DeclaredEntities.{AreMainValues}
+use Rattle.rox_values.specs.declared.context.Context.{Context}
 use Rattle.rox_tags.specs.TagHeads.{HasHead}
 use Rattle.rox_tags.specs.declared.quick_tag.PlainTag.{PlainTag}
 use Rattle.rox_tags.specs.declared.quick_tag.TagHead.{TagHead}
@@ -30,3 +33,12 @@ pub record PutsElement (src : List ℕ) (i : ℕ) (old new : Builder) (t : Plain
   pub end : j ≡ t.end
   pub leaf : t.tag.empty ≡ true → PutsLeaf old new i t.end (kind.Element t.tag.element)
   pub opens : t.tag.empty ≡ false → PutsOpen old new src i t.tag
+
+-- The machine reads values as in the context `x`, that of the main text.
+abbrev pub HasMainValues : Context → machine.Context → Type 0
+HasMainValues x m = AreMainValues x m.values
+
+-- The machine reads the main text as in the context `x`.
+pub record IsMainContext (x : Context) (m : machine.Context) : Type 0 where
+  pub values : HasMainValues x m
+  pub around : m.open_around ≡ x.open_around

@@ -3,6 +3,8 @@
 
 ghost use Rattle.std.specs.Prelude.{◌≡◌, true, ◌<◌, ℕ};
 ghost use Rattle.rox_builder.specs.Outcomes.{MayStep};
+ghost use Rattle.rox_values.specs.Contexts.{IsContextOf};
+ghost use Rattle.rox_content.specs.PlainElements.{IsMainContext};
 ghost use Rattle.rox_sections.specs.PlainOutcomes.{MayReadPlain, ReadsRows, ReadsStep, StandsApart};
 ghost use Rattle.rox_builder.specs.BuilderState.{IsReady, IsConsistent, IsReadyTo};
 
@@ -13,6 +15,7 @@ use rox_bytes::runs::{after_byte, is_at};
 use rox_scan::cursor::Cursor;
 use rox_sections::quick_data::put_character_data;
 use rox_sections::quick_sections::{MOST_BYTES, put_delimited};
+use rox_values::context::Context;
 
 /// Returns true only if no text is open that character data at the cursor would continue.
 #[inline(always)]
@@ -28,11 +31,11 @@ fn stands_apart(cursor: &Cursor<'_>, builder: &Builder<'_>) -> bool
 fn quick_markup<'input>(
     cursor: &mut Cursor<'input>,
     builder: &mut Builder<'input>,
-    open_around: usize,
+    context: &Context<'_, 'input>,
 ) -> bool
     requires { MayReadPlain cursor.old builder.old }
-    ensures reads { ReadsStep (λ k. (k.open_around ≡ open_around) × (k.values.main ≡ true))
-        cursor.old cursor.new builder.old builder.new result }
+    ensures reads { ReadsStep (IsMainContext context.entry.now) cursor.old cursor.new builder.old
+        builder.new result }
     ensures ready { result ≡ true → (most : ℕ) → IsReadyTo most builder.old
         → IsReadyTo most builder.new }
     ensures apart { result ≡ true → StandsApart cursor.new builder.new }
@@ -47,7 +50,7 @@ fn quick_markup<'input>(
     let start = cursor.pos;
     if next <= b'?' {
         if next == b'/' {
-            return close_element(cursor, builder, open_around);
+            return close_element(cursor, builder, context.open_around);
         }
         let behind = put_delimited(text, start, builder);
         if behind > MOST_BYTES {
@@ -64,7 +67,7 @@ fn quick_markup<'input>(
     if element_of_name(cursor, builder, near) {
         return true;
     }
-    let end = element(text, start, builder, run);
+    let end = element(text, start, builder, context, run);
     if end > MOST_BYTES {
         return false;
     }
@@ -78,16 +81,16 @@ fn quick_markup<'input>(
 pub fn quick_constructs<'input>(
     cursor: &mut Cursor<'input>,
     builder: &mut Builder<'input>,
-    open_around: usize,
-    main: bool,
+    context: &Context<'_, 'input>,
     rows: usize,
 ) -> bool
     requires ready { 0 < rows → IsReady rows builder.old }
     requires fine { IsConsistent builder.old.tables builder.old.opened.items }
-    ensures { ReadsRows open_around main cursor.old cursor.new builder.old builder.new result }
+    ensures { ReadsRows (IsContextOf context.entry.now) cursor.old cursor.new builder.old builder.new
+        result }
 {
     let mut here = *cursor;
-    if !main {
+    if !context.main {
         return false;
     }
     if cursor.text.len() > MOST_BYTES {
@@ -113,7 +116,7 @@ pub fn quick_constructs<'input>(
                 break;
             }
         }
-        if !quick_markup(&mut here, builder, open_around) {
+        if !quick_markup(&mut here, builder, context) {
             break;
         }
     }

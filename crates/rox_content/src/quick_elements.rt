@@ -7,7 +7,7 @@ ghost use Rattle.rox_reading.specs.Refusals.{lifted};
 ghost use Rattle.rox_builder.specs.Outcomes.{ReadsAt};
 ghost use Rattle.rox_builder.specs.Readiness.{IsApart, HasRoom};
 ghost use Rattle.rox_sections.specs.PlainOutcomes.{MayReadEnd, MayReadFirst, MayReadPart, ReadsIf};
-ghost use Rattle.rox_content.specs.PlainElements.{MayPutElement, MayReadHead, PutsElement};
+ghost use Rattle.rox_content.specs.PlainElements.{HasMainValues, MayPutElement, MayReadHead, PutsElement};
 ghost use Rattle.rox_bytes.specs.ByteSets.{StopsSet, is_part_byte};
 
 use rox_builder::builder::Builder;
@@ -21,6 +21,7 @@ use rox_tags::quick_tag::{
     PlainTag, TagHead, head_in_scope, head_of_run, start_tag, start_tag_of_name,
 };
 use rox_tags::repeated_declaration::head_repeating;
+use rox_values::context::Context;
 use rox_verbatim::quick_name::NamePlace;
 
 /// The number of scopes of a document whose root element alone declares namespaces.
@@ -68,8 +69,8 @@ pub fn element_of_name<'input>(
     requires near { StopsSet is_part_byte cursor.old.text.now (cursor.old.pos + 1) near }
     requires letter { 63 < slice_index cursor.old.text.now (cursor.old.pos + 1) }
     requires room { HasRoom cursor.old.text.now builder.old }
-    ensures { ReadsIf IsApart (λ k. k.values.main ≡ true) machine.tag_step cursor.old cursor.new builder.old
-        builder.new result }
+    ensures { ReadsIf IsApart (λ k. k.values.main ≡ true) machine.tag_step cursor.old cursor.new
+        builder.old builder.new result }
 {
     // Most tags have more than a name, so this is tested first.
     let bytes = cursor.text.as_bytes();
@@ -116,14 +117,16 @@ fn element_of_head<'input>(
     text: &'input str,
     start: usize,
     builder: &mut Builder<'input>,
+    context: &Context<'_, 'input>,
     head: TagHead<'input>,
 ) -> usize
     requires { MayReadHead text.now start builder.old head }
-    ensures { ReadsAt machine.tag_step text.entry.now start result builder.old builder.new }
+    ensures { ReadsAt (HasMainValues context.entry.now) machine.tag_step text.entry.now start result
+        builder.old builder.new }
 {
     let from = builder.tables.attributes.len();
     let (tables, seen) = (&mut builder.tables, &mut builder.buffers.seen);
-    let Some(read) = start_tag(text, start, head, tables, seen) else {
+    let Some(read) = start_tag(text, start, head, tables, context, seen) else {
         builder.tables.attributes.truncate(from);
         return NOT_READ;
     };
@@ -138,10 +141,12 @@ fn element_repeating<'input>(
     text: &'input str,
     start: usize,
     builder: &mut Builder<'input>,
+    context: &Context<'_, 'input>,
     part: usize,
 ) -> usize
     requires { MayReadPart text.now start part builder.old }
-    ensures { ReadsAt machine.tag_step text.entry.now start result builder.old builder.new }
+    ensures { ReadsAt (HasMainValues context.entry.now) machine.tag_step text.entry.now start result
+        builder.old builder.new }
 {
     if builder.tables.scopes.len() <= SCOPES_OF_ROOT || !builder.has_room_to_open() {
         return NOT_READ;
@@ -155,7 +160,7 @@ fn element_repeating<'input>(
     let Some(head) = head_repeating(text, place, &builder.tables, parent) else {
         return NOT_READ;
     };
-    element_of_head(text, start, builder, head)
+    element_of_head(text, start, builder, context, head)
 }
 
 /// Like `element_of_head`, but also reads the tag if it declares what an earlier one declared. The first part of its name ends at
@@ -165,18 +170,20 @@ fn element_of_head_or_repeating<'input>(
     text: &'input str,
     start: usize,
     builder: &mut Builder<'input>,
+    context: &Context<'_, 'input>,
     head: TagHead<'input>,
     part: usize,
 ) -> usize
     requires head { MayReadHead text.now start builder.old head }
     requires part { MayReadPart text.now start part builder.old }
-    ensures { ReadsAt machine.tag_step text.entry.now start result builder.old builder.new }
+    ensures { ReadsAt (HasMainValues context.entry.now) machine.tag_step text.entry.now start result
+        builder.old builder.new }
 {
-    let end = element_of_head(text, start, builder, head);
+    let end = element_of_head(text, start, builder, context, head);
     if end <= MOST_BYTES {
         return end;
     }
-    element_repeating(text, start, builder, part)
+    element_repeating(text, start, builder, context, part)
 }
 
 /// Reads a start tag, from its `<` at `start`, if it is plain. The first part of its name ends at `part`. Returns the offset
@@ -186,10 +193,12 @@ fn element_in_scope<'input>(
     text: &'input str,
     start: usize,
     builder: &mut Builder<'input>,
+    context: &Context<'_, 'input>,
     part: usize,
 ) -> usize
     requires { MayReadPart text.now start part builder.old }
-    ensures { ReadsAt machine.tag_step text.entry.now start result builder.old builder.new }
+    ensures { ReadsAt (HasMainValues context.entry.now) machine.tag_step text.entry.now start result
+        builder.old builder.new }
 {
     let depth = builder.opened.len();
     if depth == 0 || !builder.has_room_to_open() {
@@ -199,9 +208,9 @@ fn element_in_scope<'input>(
     let place = NamePlace { start, part };
     let near = &mut builder.buffers.seen.near;
     let Some(head) = head_in_scope(text, place, &builder.tables, parent, near) else {
-        return element_repeating(text, start, builder, part);
+        return element_repeating(text, start, builder, context, part);
     };
-    element_of_head_or_repeating(text, start, builder, head, part)
+    element_of_head_or_repeating(text, start, builder, context, head, part)
 }
 
 /// Like `element_in_scope`, but the first ASCII bytes of the name end as `run` says.
@@ -210,10 +219,12 @@ pub fn element<'input>(
     text: &'input str,
     start: usize,
     builder: &mut Builder<'input>,
+    context: &Context<'_, 'input>,
     run: RunEnd,
 ) -> usize
     requires { MayReadFirst text.now start run builder.old }
-    ensures { ReadsAt machine.tag_step text.entry.now start result builder.old builder.new }
+    ensures { ReadsAt (HasMainValues context.entry.now) machine.tag_step text.entry.now start result
+        builder.old builder.new }
 {
     let part = part_end_beyond(text, after_byte(text, start, b'<'), run.at);
     let depth = builder.opened.len();
@@ -224,9 +235,9 @@ pub fn element<'input>(
     let near = &mut builder.buffers.seen.near;
     let Some(head) = head_of_run(text, start, run, &builder.tables, parent, near) else {
         if is_at(text, part, b':') {
-            return element_repeating(text, start, builder, part);
+            return element_repeating(text, start, builder, context, part);
         }
-        return element_in_scope(text, start, builder, part);
+        return element_in_scope(text, start, builder, context, part);
     };
-    element_of_head_or_repeating(text, start, builder, head, part)
+    element_of_head_or_repeating(text, start, builder, context, head, part)
 }

@@ -1,12 +1,14 @@
 //! The root element by the fast path, up to its content. The general step reads a start tag that is not plain, from its `<`.
 
 ghost use Rattle.rox_builder.specs.Readiness.{MayReadTag};
+ghost use Rattle.rox_values.specs.DeclaredEntities.{AreMainValues};
 ghost use Rattle.rox_content.specs.RootElement.{ReadsRootElement};
 
 use rox_builder::builder::{Builder, ROOM_TO_OPEN};
 use rox_rows::row::NodeKind;
 use rox_scan::cursor::Cursor;
 use rox_tags::root_tag::first_tag;
+use rox_values::context::Context;
 
 /// The row of the root node.
 const ROOT: u32 = 0;
@@ -25,16 +27,20 @@ pub enum RootLook {
 /// Reads the start tag of the root element, from its `<`, if it is plain and its row finds room. Otherwise the tables hold what
 /// they held, unless memory was refused.
 #[inline(never)]
-pub fn root_element<'input>(cursor: &mut Cursor<'input>, builder: &mut Builder<'input>) -> RootLook
+pub fn root_element<'input>(
+    cursor: &mut Cursor<'input>,
+    builder: &mut Builder<'input>,
+    context: &Context<'_, 'input>,
+) -> RootLook
     requires { MayReadTag cursor.old builder.old }
-    ensures { ReadsRootElement cursor.old cursor.new builder.old builder.new result }
+    ensures { ReadsRootElement (AreMainValues context.entry.now) cursor.old cursor.new builder.old builder.new result }
 {
     if builder.rows_left() == 0 || builder.opened.len() != 0 {
         return RootLook::NotRead;
     }
     let (text, start) = (cursor.text, cursor.pos);
     let (tables, buffers) = (&mut builder.tables, &mut builder.buffers);
-    let Ok(look) = first_tag(text, start, tables, buffers) else {
+    let Ok(look) = first_tag(text, start, tables, context, buffers) else {
         return RootLook::Lacking;
     };
     let Some(read) = look else {

@@ -188,16 +188,14 @@ tag_named context cut above count known src i openings_left r j h =
     subst (λ (z : TagRead × ℕ). qname_at src (i + 1) ≡ Ok (z.0.tag.name, z.0.tag.name_end)) (ok_same _ _ h) named))))
 
 -- so an element that it opens has its name
-pub opened_named : (context : Values) (cut : Fault) (above : List NamespaceDecl) (count : ℕ) (known : List NamespaceDecl) (src : List ℕ) (i openings_left : ℕ) (r : TagRead) (j : ℕ) (t : StartTag) (o : OpenElement)
-    → IsUtf8 src → slice_index src i ≡ 60 → tag_at context cut above count known src i openings_left ≡ Ok (r, j) → name_view t.name ≡ r.tag.name → t.name_end ≡ r.tag.name_end → t.name_start ≡ i + 1
+pub opened_named : (src : List ℕ) (i e : ℕ) (q : Name) (t : StartTag) (o : OpenElement) → IsUtf8 src → slice_index src i ≡ 60 → qname_at src (i + 1) ≡ Ok (q, e) → name_view t.name ≡ q → t.name_end ≡ e → t.name_start ≡ i + 1
     → IsOpened src t o → HasName o
-opened_named context cut above count known src i openings_left r j t o utf8 here read name name_end name_start by =
-    let named = tag_named context cut above count known src i openings_left r j read in
-    let le = qname_le src (i + 1) r.tag.name r.tag.name_end (qname_sound src (i + 1) (r.tag.name, r.tag.name_end) named) in
+opened_named src i e q t o utf8 here named name name_end name_start by =
+    let le = qname_le src (i + 1) q e (qname_sound src (i + 1) (q, e) named) in
     let cut = IsCharBoundary-after_ascii src i utf8 (stands_within src i 60 here (omega arith)) (rw here (omega arith)) in
     let n = name_length o in
-    let view : open_name o ≡ r.tag.name = by.name ∙ name in
-    let long : n ≡ r.tag.name_end - (i + 1) = by.kept.counted ∙ ap (λ (e : ℕ). e - t.name_start) name_end ∙ ap (λ (k : ℕ). r.tag.name_end - k) name_start in
-    let named' : qname_at src (i + 1) ≡ Ok (r.tag.name, i + 1 + n) = named ∙ ap (λ (e : ℕ). Ok (r.tag.name, e)) (omega arith) in
+    let view : open_name o ≡ q = by.name ∙ name in
+    let long : n ≡ e - (i + 1) = by.kept.counted ∙ ap (λ (m : ℕ). m - t.name_start) name_end ∙ ap (λ (k : ℕ). e - k) name_start in
+    let named' : qname_at src (i + 1) ≡ Ok (q, i + 1 + n) = named ∙ ap (λ (m : ℕ). Ok (q, m)) (omega arith) in
     let bytes : take n o.source.now ≡ take n (drop (i + 1) src) = by.kept.bytes ∙ rw (name_end, name_start, ← long) refl in
     grind (arith, named_same)

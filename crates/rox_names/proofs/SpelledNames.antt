@@ -7,10 +7,8 @@ use Rattle.std.proofs.lemmas.Str.{IsCharBoundary-after_ascii}
 use Rattle.rox_grammar.specs.Chars.{is_part_char}
 use Rattle.rox_grammar.specs.Failures.{name_view}
 use Rattle.rox_grammar.specs.Names.{IsNCName, IsQName, unprefixed, prefixed, colon_first}
-use Rattle.rox_grammar.specs.Written.{Name, NamespaceDecl}
-use Rattle.rox_grammar.specs.declared.fault.Fault.{Fault}
+use Rattle.rox_grammar.specs.Written.{Name}
 use Rattle.rox_reading.specs.Lexical.{qname_at}
-use Rattle.rox_reading.specs.Tags.{Values, TagRead, tag_at}
 use Rattle.rox_theory.proofs.Productions.{ncname_parts}
 use Rattle.rox_theory.proofs.Basics.{run_end_le}
 use Rattle.rox_theory.proofs.CharLemmas.{run_within}
@@ -20,7 +18,7 @@ use Rattle.rox_names.specs.SpelledNames.{before_colon, kept_length, KeepsName, s
 use Rattle.rox_names.specs.declared.open_element.OpenElement.{OpenElement}
 use Rattle.rox_names.specs.declared.start_tag.StartTag.{StartTag}
 use Rattle.rox_bytes.proofs.RunLemmas.{stands_within}
-use Rattle.rox_names.proofs.SameNames.{colon_apart, name_inside, tag_named}
+use Rattle.rox_names.proofs.SameNames.{colon_apart, name_inside}
 
 pub spelled_whole : (bs : List ℕ) → before_colon bs ≡ length bs → spelled_name bs ≡ record { prefix = []; local = bs }
 unfolding spelled_name
@@ -130,13 +128,10 @@ unprefixed_name o named bare = nothing (open_name o).prefix (not-false _ (sym na
     nothing (x ∷ xs) h = absurd (omega (arith, eqb-true _ _ h))
 
 -- the name of a tag that is read stands where the tag says
-pub tag_is_named : (context : Values) (cut : Fault) (above : List NamespaceDecl) (count : ℕ) (known : List NamespaceDecl) (src : List ℕ) (i openings_left : ℕ) (r : TagRead) (j : ℕ) (t : StartTag)
-    → IsUtf8 src → slice_index src i ≡ 60 → tag_at context cut above count known src i openings_left ≡ Ok (r, j) → name_view t.name ≡ r.tag.name → t.name_end ≡ r.tag.name_end → t.name_start ≡ i + 1
-    → SpellsName src t
-tag_is_named context cut above count known src i openings_left r j t utf8 here read name name_end name_start =
-    let named = tag_named context cut above count known src i openings_left r j read in
-    let is = qname_sound src (i + 1) (r.tag.name, r.tag.name_end) named in
-    let le = qname_le src (i + 1) r.tag.name r.tag.name_end is in
+pub tag_is_named : (src : List ℕ) (i n : ℕ) (q : Name) (t : StartTag) → IsUtf8 src → slice_index src i ≡ 60 → qname_at src (i + 1) ≡ Ok (q, n) → name_view t.name ≡ q → t.name_end ≡ n → t.name_start ≡ i + 1 → SpellsName src t
+tag_is_named src i n q t utf8 here named name name_end name_start =
+    let is = qname_sound src (i + 1) (q, n) named in
+    let le = qname_le src (i + 1) q n is in
     let cut = IsCharBoundary-after_ascii src i utf8 (stands_within src i 60 here (omega arith)) (rw here (omega arith)) in
-    let inside = name_inside src (i + 1) r.tag.name r.tag.name_end utf8 cut is in
+    let inside = name_inside src (i + 1) q n utf8 cut is in
     grind (arith, qname_spelled)

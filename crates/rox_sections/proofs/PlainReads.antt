@@ -29,7 +29,7 @@ fine_same b u fine tables opens = rw (tables, opens) fine
 pub keeps_same : (b u : Builder) → u ≡ b → KeepsState b u
 keeps_same b u same = rw same (keeps_all b)
 
-pub reads_not : (read : machine.Context → List ℕ → State → Result State Refusal) (src : List ℕ) (i j : ℕ) (b u : Builder) → 2 ^ 32 ≤ j → KeepsState b u → IsConsistent u.tables u.opened.items → ReadsAt read src i j b u
+pub reads_not : {such : machine.Context → Type 0} (read : machine.Context → List ℕ → State → Result State Refusal) (src : List ℕ) (i j : ℕ) (b u : Builder) → 2 ^ 32 ≤ j → KeepsState b u → IsConsistent u.tables u.opened.items → ReadsAt such read src i j b u
 reads_not read src i j b u not_read kept fine = record {
   value = λ less. absurd (omega (arith, less, not_read));
   other = λ _. kept;
@@ -55,7 +55,7 @@ ready_kept : (most : ℕ) (b u : Builder) → KeepsState b u → IsReadyTo most 
 ready_kept most b u k h = record { room = rw k.nodes h.room; few = rw k.limit h.few; small = h.small; settled = rw k.pending h.settled }
 
 -- what is read where the builder holds equal rows
-pub reads_kept : (read : machine.Context → List ℕ → State → Result State Refusal) (src : List ℕ) (i j : ℕ) (b u after : Builder) → KeepsState b u → ReadsAt read src i j u after → ReadsAt read src i j b after
+pub reads_kept : {such : machine.Context → Type 0} (read : machine.Context → List ℕ → State → Result State Refusal) (src : List ℕ) (i j : ℕ) (b u after : Builder) → KeepsState b u → ReadsAt such read src i j u after → ReadsAt such read src i j b after
 reads_kept read src i j b u after k r = record {
   value = λ less context end s here behind main start stop h. r.value less context end s here behind main start stop (state_kept context.limit end s here here b u h refl k);
   other = λ no. keeps_on b u after k (r.other no);

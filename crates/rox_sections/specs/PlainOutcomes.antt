@@ -109,9 +109,9 @@ pub record ReadsStep (such : machine.Context → Type 0) (old new : Cursor) (b a
   pub other : result ≡ false → (new ≡ old) × KeepsState b after
   pub goes : GoesOn old new after
 
--- Some constructs were read, or none. `around` elements are open around the text, and `main` is true if it is the main text.
-pub record ReadsRows (around : ℕ) (main : Bool) (old new : Cursor) (b after : Builder) (result : Bool) : Type 0 where
-  pub value : (context : machine.Context) (end : ℕ) (s : State) → context.open_around ≡ around → context.values.main ≡ main → IsInState context.limit end s old b
+-- Some constructs were read, in a context that meets `such`, or none.
+pub record ReadsRows (such : machine.Context → Type 0) (old new : Cursor) (b after : Builder) (result : Bool) : Type 0 where
+  pub value : (context : machine.Context) (end : ℕ) (s : State) → such context → IsInState context.limit end s old b
       → (n : ℕ) × Reads context end n new after old.text.now s
   pub moves : result ≡ true → old.pos < new.pos
   pub goes : GoesOn old new after

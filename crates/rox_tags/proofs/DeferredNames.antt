@@ -16,7 +16,7 @@ use Rattle.rox_names.specs.TagScopes.{scope_in_tables}
 use Rattle.rox_names.specs.declared.tables.ElementTables.{ElementTables}
 use Rattle.rox_names.specs.declared.unresolved_attribute.UnresolvedAttribute.{UnresolvedAttribute}
 use Rattle.rox_bytes.proofs.RunLemmas.{stands_within}
-use Rattle.rox_tags.specs.DeferredNames.{HasTaken, ResolvesTaken, TakesPlain, of_root}
+use Rattle.rox_tags.specs.DeferredNames.{HasTaken, ResolvesTaken, TakesPlain}
 use Rattle.rox_tags.specs.PlainParts.{EndsTag}
 use Rattle.rox_tags.specs.TagAttributes.{AreNoBindings, ArePlainAttributes, BeginsRoot, DeclaresInRoot, HasGrown, HasRootScope, ListsDeclaration, first_places, holding}
 use Rattle.rox_tags.specs.declared.quick_tag.TagEnd.{TagEnd}
@@ -26,16 +26,16 @@ use Rattle.rox_tags.proofs.TagAttributes.{IsEnd, begins_in, end_is, taken_declar
 -- ---- one after another
 
 -- The attributes `taken` and the declarations of the tag from `start` up to `i` were read. The declarations are in the tables.
-pub record TakesSoFar (old now : ElementTables) (src : List ℕ) (start i : ℕ) (taken : List UnresolvedAttribute) : Type 0 where
+pub record TakesSoFar (such : Values → Type 0) (old now : ElementTables) (src : List ℕ) (start i : ℕ) (taken : List UnresolvedAttribute) : Type 0 where
   pub own : List NamespaceDecl
   pub declares : DeclaresInRoot old now 1 own
   pub kept : attribute_rows now.attributes ≡ attribute_rows old.attributes
   pub turns : ℕ
   pub enough : turns + start ≤ i
-  pub read : (context : Values) → context.main ≡ true → (cut : Fault) (openings_left rest : ℕ)
+  pub read : (context : Values) → such context → (cut : Fault) (openings_left rest : ℕ)
       → attributes_at (turns + rest) context cut [] src start openings_left (holding [] []) ≡ attributes_at rest context cut [] src i openings_left (holding own (map unresolved_view taken))
 
-pub takes_start : (t : ElementTables) (src : List ℕ) (start : ℕ) → BeginsRoot t → TakesSoFar t t src start start []
+pub takes_start : {such : Values → Type 0} (t : ElementTables) (src : List ℕ) (start : ℕ) → BeginsRoot t → TakesSoFar such t t src start start []
 takes_start t src start h = record {
   own = [];
   declares = begins_in true t 1 (h, refl);
@@ -46,8 +46,8 @@ takes_start t src start h = record {
 }
 
 -- an attribute more
-pub takes_more : (old t : ElementTables) (src : List ℕ) (start i k j : ℕ) (xs next : List UnresolvedAttribute) → TakesSoFar old t src start i xs → TakesPlain src k j xs next
-    → i ≤ k → k ≡ spaces_end src i → (k ≡ i → ⊥) → (slice_index src k == 47) ≡ false → (slice_index src k == 62) ≡ false → TakesSoFar old t src start j next
+pub takes_more : {such : Values → Type 0} (old t : ElementTables) (src : List ℕ) (start i k j : ℕ) (xs next : List UnresolvedAttribute) → TakesSoFar such old t src start i xs → TakesPlain such src k j xs next
+    → i ≤ k → k ≡ spaces_end src i → (k ≡ i → ⊥) → (slice_index src k == 47) ≡ false → (slice_index src k == 62) ≡ false → TakesSoFar such old t src start j next
 takes_more old t src start i k j xs next g x onward spaces some slash close =
     let view = unresolved_view x.one in
     let held = holding g.own (map unresolved_view xs) in
@@ -68,10 +68,10 @@ takes_more old t src start i k j xs next g x onward spaces some slash close =
     }
 
 -- a declaration more
-pub takes_declared : (old t new : ElementTables) (src : List ℕ) (start i k j : ℕ) (xs : List UnresolvedAttribute) → TakesSoFar old t src start i xs
+pub takes_declared : {such : Values → Type 0} (old t new : ElementTables) (src : List ℕ) (start i k j : ℕ) (xs : List UnresolvedAttribute) → TakesSoFar such old t src start i xs
     → new ≡ record t { namespaces = new.namespaces; listed = new.listed; scopes = new.scopes }
-    → ((own : Scope) → t.scopes.items ≡ first_places 0 ∷ own ∷ [] → new.scopes.items ≡ first_places 0 ∷ first_places (length new.listed.items) ∷ []) → ListsDeclaration t new src k j
-    → i ≤ k → k ≡ spaces_end src i → (k ≡ i → ⊥) → (slice_index src k == 47) ≡ false → (slice_index src k == 62) ≡ false → TakesSoFar old new src start j xs
+    → ((own : Scope) → t.scopes.items ≡ first_places 0 ∷ own ∷ [] → new.scopes.items ≡ first_places 0 ∷ first_places (length new.listed.items) ∷ []) → ListsDeclaration such t new src k j
+    → i ≤ k → k ≡ spaces_end src i → (k ≡ i → ⊥) → (slice_index src k == 47) ≡ false → (slice_index src k == 62) ≡ false → TakesSoFar such old new src start j xs
 takes_declared old t new src start i k j xs g is scopes l onward spaces some slash close =
     let d = g.declares in
     let view = unresolved_view l.one in
@@ -98,14 +98,15 @@ takes_declared old t new src start i k j xs g is scopes l onward spaces some sla
 
 -- ---- the end of the tag
 
-taken_to : (old t : ElementTables) (src : List ℕ) (start i j : ℕ) (item : TagItem) (empty : Bool) (xs : List UnresolvedAttribute) → TakesSoFar old t src start i xs → i < length src → tag_item_at src i ≡ Ok (item, j) → IsEnd item empty
-    → HasTaken old t src start j empty xs
-taken_to old t src start i j item empty xs g within is h =
+taken_to : {such : Values → Type 0} (old t : ElementTables) (src : List ℕ) (start i j : ℕ) (item : TagItem) (empty : Bool) (xs : List UnresolvedAttribute) → TakesSoFar such old t src start i xs → i < length src → tag_item_at src i ≡ Ok (item, j) → i ≤ j → IsEnd item empty
+    → HasTaken such old t src start j empty xs
+taken_to old t src start i j item empty xs g within is onward h =
     let nothing : map namespace_view old.namespaces.items.items ≡ [] = ap (map namespace_view) g.declares.known in
     let enough = g.enough in
     record {
       own = g.own;
       declares = g.declares;
+      onward = omega arith;
       read = λ context main cut openings_left turns before fits none.
           let rest = turns - g.turns - 1 in
           rw (none, nothing)
@@ -113,25 +114,25 @@ taken_to old t src start i j item empty xs g within is h =
           ∙ end_is src i rest j item empty (holding g.own (map unresolved_view xs)) context cut [] openings_left within is h);
     }
 
-pub takes_ends : (old t : ElementTables) (src : List ℕ) (start i j : ℕ) (r : Option TagEnd) (xs : List UnresolvedAttribute) → TakesSoFar old t src start i xs → i ≤ j → j ≡ spaces_end src i → EndsTag src j r
-    → IfSome r (λ e. HasTaken old t src start e.at e.empty xs)
-takes_ends old t src start i j None xs g onward spaces ends = tt
-takes_ends old t src start i j (Some e) xs g onward spaces ends = which e.empty refl
+pub takes_ends : {such : Values → Type 0} (old t : ElementTables) (src : List ℕ) (start i j : ℕ) (r : Option TagEnd) (xs : List UnresolvedAttribute) → TakesSoFar such old t src start i xs → i ≤ j → j ≡ spaces_end src i → EndsTag src j r
+    → IfSome r (λ e. HasTaken such old t src start e.at e.empty xs)
+takes_ends {such = such} old t src start i j None xs g onward spaces ends = tt
+takes_ends {such = such} old t src start i j (Some e) xs g onward spaces ends = which e.empty refl
   where
-    which : (b : Bool) → e.empty ≡ b → HasTaken old t src start e.at e.empty xs
+    which : (b : Bool) → e.empty ≡ b → HasTaken such old t src start e.at e.empty xs
     which false is =
         let o = ends.opens is in
         let within = stands_within src j 62 o.0 (omega arith) in
-        rw (o.1, is) (taken_to old t src start i (j + 1) opened false xs g (omega arith) (item_opened src i j spaces o.0) refl)
+        rw (o.1, is) (taken_to old t src start i (j + 1) opened false xs g (omega arith) (item_opened src i j spaces o.0) (omega arith) refl)
     which true is =
         let c = ends.closes is in
         let within = stands_within src j 47 c.0 (omega arith) in
-        rw (c.1.1, is) (taken_to old t src start i (j + 2) closed true xs g (omega arith) (item_closed src i j spaces c.0 c.1.0) refl)
+        rw (c.1.1, is) (taken_to old t src start i (j + 2) closed true xs g (omega arith) (item_closed src i j spaces c.0 c.1.0) (omega arith) refl)
 
 -- ---- the names are resolved
 
-pub deferred_plain : (old t new : ElementTables) (src : List ℕ) (start end : ℕ) (empty : Bool) (xs : List UnresolvedAttribute) → HasTaken old t src start end empty xs → attribute_rows t.attributes ≡ attribute_rows old.attributes
-    → new ≡ record t { attributes = new.attributes } → ResolvesTaken t new xs → ArePlainAttributes of_root old new src start end empty
+pub deferred_plain : {such : Values → Type 0} (old t new : ElementTables) (src : List ℕ) (start end : ℕ) (empty : Bool) (xs : List UnresolvedAttribute) → HasTaken such old t src start end empty xs → attribute_rows t.attributes ≡ attribute_rows old.attributes
+    → new ≡ record t { attributes = new.attributes } → ResolvesTaken t new xs → ArePlainAttributes such true 1 old new src start end empty
 deferred_plain old t new src start end empty xs g kept is r =
     let spaces : map namespace_view new.namespaces.items.items ≡ map namespace_view t.namespaces.items.items = ap (λ (u : ElementTables). map namespace_view u.namespaces.items.items) is in
     let lists : scope_in_tables new 1 ≡ scope_in_tables t 1 = ap (λ (u : ElementTables). scope_in_tables u 1) is in
@@ -141,6 +142,7 @@ deferred_plain old t new src start end empty xs g kept is r =
       own = g.own;
       declares = subst (λ (u : ElementTables). DeclaresInRoot old u 1 g.own) (sym is)
           (record { root = d.root; known = d.known; declares = d.declares; keys = d.keys; has = d.has; scope = record { scopes = d.scope.scopes; present = d.scope.present } });
+      onward = g.onward;
       written = map unresolved_view xs;
       more = more;
       rows = r.1.1 ∙ ap (λ (ys : List AttributeRow). ys ++ more) kept;
@@ -156,7 +158,7 @@ nothing_in : {A : Type 0} (xs : List A) → length xs ≡ 0 → xs ≡ []
 nothing_in [] none = refl
 nothing_in (x ∷ xs) none = absurd (omega arith)
 
-pub none_grown : (old new : ElementTables) → length (attribute_rows old.attributes) ≡ 0 → HasGrown of_root old new
+pub none_grown : (old new : ElementTables) → length (attribute_rows old.attributes) ≡ 0 → HasGrown true old new
 none_grown old new none = record {
   more = attribute_rows new.attributes;
   rows = rw (nothing_in (attribute_rows old.attributes) none) refl;

@@ -23,7 +23,8 @@ use Rattle.rox_names.proofs.Declaring.{declared_new}
 use Rattle.rox_attributes.specs.PlainAttribute.{HasScope}
 use Rattle.rox_tags.specs.PlainTag.{MayOpenBelow}
 use Rattle.rox_tags.specs.Repeating.{AreOneMore, IsRepeated, Repeats}
-use Rattle.rox_tags.specs.TagAttributes.{IsNearDeclaration, holding}
+use Rattle.rox_reading.specs.Tags.{attributes_at}
+use Rattle.rox_tags.specs.TagAttributes.{AreOfMainText, IsNearDeclaration, holding}
 use Rattle.rox_tags.proofs.OwnNames.{xmlns_letter}
 use Rattle.rox_tags.proofs.TagAttributes.{taken_declared, turn_is}
 use Rattle.rox_tags.specs.TagHeads.{Begins}
@@ -104,7 +105,10 @@ begins_repeating t o src k one n below x near =
       scope = repeated_once t o.scope n d (scope_of_parent t o below) x.scope;
       lists = x.scope.lists ∙ sym (lists_one d (scope_in_tables t o.scope) x.other x.scope.absent);
       pairs = stay;
+      onward = omega arith;
       turns = left;
       enough = omega arith;
-      read = grind (arith, turn_is);
+      read = λ context main cut openings_left.
+          ap (λ (m : ℕ). attributes_at m context cut names src k openings_left (holding [] [])) turns
+          ∙ turn_is {such = AreOfMainText} src k one.start left one (holding [] []) (holding (d ∷ []) []) context cut names openings_left main near.read.plain (omega arith) near.spaces (λ same. absurd (omega (arith, same))) (rw letter refl) (rw letter refl) took;
     }

@@ -21,13 +21,14 @@ use Rattle.rox_scopes.specs.declared.stored_scope.Scope.{Scope}
 use Rattle.rox_scopes.proofs.Ropes.{all_places, none_below}
 use Rattle.rox_names.specs.OpenElements.{IsNamespaceOf}
 use Rattle.rox_names.specs.declared.start_tag.StartTag.{StartTag}
+use Rattle.rox_theory.proofs.NameLemmas.{qname_sound}
+use Rattle.rox_theory.proofs.Onward.{qname_onward}
 use Rattle.rox_starts.specs.ElementRow.{IsElementFrom}
 use Rattle.rox_tags.specs.PlainTag.{IsPlainTag}
 use Rattle.rox_tags.specs.TagAttributes.{AreNoBindings, ArePlainAttributes, HasRootScope, holding}
 use Rattle.rox_starts.proofs.Starting.{tag_made, tested_known, tested_passes}
 use Rattle.rox_tags.proofs.TagAttributes.{has_scope, plain_count, root_scopes, scope_declares, slice_whole}
 use Rattle.rox_tags.specs.RootTag.{IsBlank}
-use Rattle.rox_tags.specs.DeferredNames.{of_root}
 
 -- ---- the scope of a root element
 
@@ -54,24 +55,24 @@ root_lists t h = grind (arith, slice_whole)
 listed_nothing : (own : List NamespaceDecl) → listed [] own ≡ listable_of own
 listed_nothing own = append-nil (listable_of own)
 
-pub root_tagged : (blank old new : ElementTables) (src : List ℕ) (i n end : ℕ) (t : StartTag) (from namespace : ℕ) → IsBlank blank → attribute_rows blank.attributes ≡ attribute_rows old.attributes
-    → ArePlainAttributes of_root old new src n end t.empty → qname_at src (i + 1) ≡ Ok (name_view t.name, n) → bytes_eq (name_view t.name).prefix (word_text Xmlns) ≡ false
+pub root_tagged : {such : Values → Type 0} (blank old new : ElementTables) (src : List ℕ) (i n end : ℕ) (t : StartTag) (from namespace : ℕ) → IsBlank blank → attribute_rows blank.attributes ≡ attribute_rows old.attributes
+    → ArePlainAttributes such true 1 old new src n end t.empty → qname_at src (i + 1) ≡ Ok (name_view t.name, n) → bytes_eq (name_view t.name).prefix (word_text Xmlns) ≡ false
     → t.name_start ≡ i + 1 → t.name_end ≡ n → IsElementFrom new t.name.local from 1 namespace t.element → from ≡ length (attribute_rows old.attributes)
     → length (attribute_rows new.attributes) ≤ most_attributes → IsNamespaceOf new 1 (name_view t.name) (numbered_place namespace)
-    → may_name (scope_in_tables new 1) (name_view t.name) ≡ true → IsCharBoundary src end → IsPlainTag blank new [] src i end t
-root_tagged blank old new src i n end t from namespace none same x is other starts name_end e from_is most named known cut =
+    → may_name (scope_in_tables new 1) (name_view t.name) ≡ true → IsCharBoundary src end → IsPlainTag such blank new [] src i end t
+root_tagged {such = such} blank old new src i n end t from namespace none same x is other starts name_end e from_is most named known cut =
     let d = x.declares in
     let name = name_view t.name in
     let ns = map namespace_view new.namespaces.items.items in
     let nothing : map namespace_view blank.namespaces.items.items ≡ [] = ap (map namespace_view) none.namespaces in
     let lists : scope_in_tables new 1 ≡ listed [] x.own = scope_declares new x.own d.scope d.declares ∙ sym (listed_nothing x.own) in
     let count : length (attribute_rows blank.attributes) ≡ length (attribute_rows old.attributes) = ap length same in
-    let counted = plain_count of_root old new src n end t.empty x in
+    let counted = plain_count true 1 old new src n end t.empty x in
     let passed : names_tested (listed [] x.own) [] x.written ≡ Ok tt = subst (λ (ds : List NamespaceDecl). names_tested ds [] x.written ≡ Ok tt) lists x.tested in
     let fine : tag_tested (listed [] x.own) (length (attribute_rows blank.attributes)) i name x.written ≡ Ok tt =
     tested_passes (listed [] x.own) (length (attribute_rows blank.attributes)) i name x.written
     (tested_known (listed [] x.own) (length (attribute_rows blank.attributes)) (i + 1) name x.written (omega arith) passed (subst (λ ds. may_name ds name ≡ true) lists known)) in
-    let read : (context : Values) → context.main ≡ true → (cut : Fault) (openings_left : ℕ) → attributes_at (length src) context cut [] src n openings_left (holding [] [])
+    let read : (context : Values) → such context → (cut : Fault) (openings_left : ℕ) → attributes_at (length src) context cut [] src n openings_left (holding [] [])
     ≡ Ok (record { held = holding x.own x.written; empty = t.empty; openings_left = openings_left }, end) = grind arith in
     record {
       tag = record { name = name; name_end = n; declarations = x.own; attributes = x.written };
@@ -90,6 +91,8 @@ root_tagged blank old new src i n end t from namespace none same x is other star
         element = grind arith;
       };
       starts = starts;
+      named = is;
+      onward = omega (arith, x.onward, qname_onward src (i + 1) n name (qname_sound src (i + 1) (name, n) is));
       cut = cut;
     }
 

@@ -46,7 +46,6 @@ use Rattle.rox_rows.proofs.Stable.{attribute-append}
 use Rattle.rox_attributes.specs.PlainAttribute.{AddsPlain, HasScope, IsPlainAttribute, few_in}
 use Rattle.rox_tags.specs.TagAttributes.{AreNoBindings, ArePlainAttributes, DeclaresIn, DeclaresInRoot, HasGrown, HasRootScope, HoldsSoFar, ListsDeclaration, MayBegin, PlainSoFar, ReadsUpTo, first_places, holding}
 use Rattle.rox_tags.specs.declared.quick_tag.TagEnd.{TagEnd}
-use Rattle.rox_tags.specs.declared.own_declaration.TagScope.{TagScope}
 use Rattle.rox_bytes.proofs.RunLemmas.{stands_within}
 use Rattle.rox_names.proofs.Resolving.{nothing_left}
 use Rattle.rox_verbatim.proofs.Verbatim.{item_more}
@@ -131,12 +130,12 @@ still_shown ds later written h = known_shown ds later [] written h
 
 -- ---- one turn after another
 
-turn_item : (src : List ℕ) (i j n : ℕ) (a : UnresolvedAttribute) (held : TagSoFar) (context : Values) (cut : Fault) (known : List NamespaceDecl) (openings_left : ℕ) → context.main ≡ true → (h : IsPlainAttribute src j a)
+turn_item : {such : Values → Type 0} (src : List ℕ) (i j n : ℕ) (a : UnresolvedAttribute) (held : TagSoFar) (context : Values) (cut : Fault) (known : List NamespaceDecl) (openings_left : ℕ) → such context → (h : IsPlainAttribute such src j a)
     → i < length src → tag_item_at src i ≡ Ok (more (record { start = j; name = name_view a.name; name_end = a.name_end; value_start = a.value_start; value_end = h.value_end }), a.end)
     → attributes_at (suc n) context cut known src i openings_left held ≡ (lifted (taken known (unresolved_view a) held) >>= λ x. attributes_at n context cut known src a.end openings_left x)
 unfolding attributes_at
-turn_item src i j n a held context cut known openings_left main h within item =
-    let v : value_at context.main context.entities context.opener src a.value_start h.value_end openings_left ≡ Ok (record { value = storage_bytes a.value; borrowed = is_borrowed a.value }, openings_left) = rw main (h.value context.entities context.opener openings_left) in
+turn_item src i j n a held context cut known openings_left is h within item =
+    let v : value_at context.main context.entities context.opener src a.value_start h.value_end openings_left ≡ Ok (record { value = storage_bytes a.value; borrowed = is_borrowed a.value }, openings_left) = h.value context is openings_left in
     let view : attribute_with (record { start = j; name = name_view a.name; name_end = a.name_end; value_start = a.value_start; value_end = h.value_end }) (record { value = storage_bytes a.value; borrowed = is_borrowed a.value }) ≡ unresolved_view a =
     rw (h.start, h.end) refl in
     rw ((lt-leb (length src) i within), item, v) (ap (λ (x : Attribute). lifted (taken known x held) >>= λ y. attributes_at n context cut known src a.end openings_left y) view)
@@ -147,7 +146,7 @@ taken_other known a held other = rw other refl
 pub taken_declared : (known : List NamespaceDecl) (a : Attribute) (held after : TagSoFar) → is_namespace_decl a.name ≡ true → declared known a held ≡ Ok after → taken known a held ≡ Ok after
 taken_declared known a held after is h = rw is h
 
-pub turn_is : (src : List ℕ) (i j n : ℕ) (a : UnresolvedAttribute) (held after : TagSoFar) (context : Values) (cut : Fault) (known : List NamespaceDecl) (openings_left : ℕ) → context.main ≡ true → IsPlainAttribute src j a
+pub turn_is : {such : Values → Type 0} (src : List ℕ) (i j n : ℕ) (a : UnresolvedAttribute) (held after : TagSoFar) (context : Values) (cut : Fault) (known : List NamespaceDecl) (openings_left : ℕ) → such context → IsPlainAttribute such src j a
     → i ≤ j → j ≡ spaces_end src i → (j ≡ i → ⊥) → (slice_index src j == 47) ≡ false → (slice_index src j == 62) ≡ false → taken known (unresolved_view a) held ≡ Ok after
     → attributes_at (suc n) context cut known src i openings_left held ≡ attributes_at n context cut known src a.end openings_left after
 turn_is src i j n a held after context cut known openings_left main plain onward spaces some slash close h =
@@ -156,7 +155,7 @@ turn_is src i j n a held after context cut known openings_left main plain onward
 
 -- ---- what is read so far
 
-plain_starts : (declares : Bool) (known namespaces scope : List NamespaceDecl) (src : List ℕ) (start : ℕ) (old : List AttributeRow) → PlainSoFar declares known namespaces scope [] src start old start old
+plain_starts : {such : Values → Type 0} (declares : Bool) (known namespaces scope : List NamespaceDecl) (src : List ℕ) (start : ℕ) (old : List AttributeRow) → PlainSoFar such declares known namespaces scope [] src start old start old
 plain_starts declares known namespaces scope src start old = record {
   written = [];
   more = [];
@@ -170,10 +169,10 @@ plain_starts declares known namespaces scope src start old = record {
 }
 
 -- an attribute more
-plain_more : (declares : Bool) (known namespaces scope own : List NamespaceDecl) (few : Option (List ℕ)) (present : PrefixBindings) (src : List ℕ) (start : ℕ) (old : List AttributeRow) (i j : ℕ) (now next : List AttributeRow) (a : UnresolvedAttribute)
-    → PlainSoFar declares known namespaces scope own src start old i now → i ≤ j → j ≡ spaces_end src i → (j ≡ i → ⊥) → (slice_index src j == 47) ≡ false → (slice_index src j == 62) ≡ false
-    → IsPlainAttribute src j a → is_namespace_decl (name_view a.name) ≡ false → FindsBinding namespaces few present scope → AddsResolved namespaces few present (length old) now next a
-    → PlainSoFar declares known namespaces scope own src start old a.end next
+plain_more : {such : Values → Type 0} (declares : Bool) (known namespaces scope own : List NamespaceDecl) (few : Option (List ℕ)) (present : PrefixBindings) (src : List ℕ) (start : ℕ) (old : List AttributeRow) (i j : ℕ) (now next : List AttributeRow) (a : UnresolvedAttribute)
+    → PlainSoFar such declares known namespaces scope own src start old i now → i ≤ j → j ≡ spaces_end src i → (j ≡ i → ⊥) → (slice_index src j == 47) ≡ false → (slice_index src j == 62) ≡ false
+    → IsPlainAttribute such src j a → is_namespace_decl (name_view a.name) ≡ false → FindsBinding namespaces few present scope → AddsResolved namespaces few present (length old) now next a
+    → PlainSoFar such declares known namespaces scope own src start old a.end next
 plain_more declares known namespaces scope own few present src start old i j now next a g onward spaces some slash close plain other h r =
     let row = row_of_unresolved a r.namespace in
     let view = unresolved_view a in
@@ -196,7 +195,7 @@ plain_more declares known namespaces scope own few present src start old i j now
           ∙ turn_is src i j rest a held _ context cut known openings_left main plain onward spaces some slash close (taken_other known view held other);
     }
 
-plain_passes : (declares : Bool) (known namespaces scope own : List NamespaceDecl) (src : List ℕ) (start : ℕ) (old : List AttributeRow) (i : ℕ) (now : List AttributeRow) (g : PlainSoFar declares known namespaces scope own src start old i now) → names_tested scope [] g.written ≡ Ok tt
+plain_passes : {such : Values → Type 0} (declares : Bool) (known namespaces scope own : List NamespaceDecl) (src : List ℕ) (start : ℕ) (old : List AttributeRow) (i : ℕ) (now : List AttributeRow) (g : PlainSoFar such declares known namespaces scope own src start old i now) → names_tested scope [] g.written ≡ Ok tt
 plain_passes declares known namespaces scope own src start old i now g = ap (names_tested scope []) (sym (append-nil g.written)) ∙ g.tested [] ∙ nothing_left scope g.written
 
 -- what is declared then
@@ -217,11 +216,11 @@ declared_is a h after is = tested (uri_tested a) is
         chosen (nat_lt most_pairs (length (with_new [] (listable_of (h.own ++ namespace_decl_of a ∷ []))))) _ _ _ l (λ t m. cc m) (λ f m. same _ _ m))
 
 -- a declaration more, in a scope of which all is declared
-plain_declared : (namespaces next own after : List NamespaceDecl) (src : List ℕ) (start : ℕ) (old : List AttributeRow) (i j : ℕ) (now : List AttributeRow) (a : UnresolvedAttribute)
-    → (g : PlainSoFar true [] namespaces (listable_of own) own src start old i now) → i ≤ j → j ≡ spaces_end src i → (j ≡ i → ⊥) → (slice_index src j == 47) ≡ false → (slice_index src j == 62) ≡ false
-    → IsPlainAttribute src j a → is_namespace_decl (name_view a.name) ≡ true → namespaces ≡ with_new [] (listable_of own) → next ≡ with_new [] (listable_of after)
+plain_declared : {such : Values → Type 0} (namespaces next own after : List NamespaceDecl) (src : List ℕ) (start : ℕ) (old : List AttributeRow) (i j : ℕ) (now : List AttributeRow) (a : UnresolvedAttribute)
+    → (g : PlainSoFar such true [] namespaces (listable_of own) own src start old i now) → i ≤ j → j ≡ spaces_end src i → (j ≡ i → ⊥) → (slice_index src j == 47) ≡ false → (slice_index src j == 62) ≡ false
+    → IsPlainAttribute such src j a → is_namespace_decl (name_view a.name) ≡ true → namespaces ≡ with_new [] (listable_of own) → next ≡ with_new [] (listable_of after)
     → declared [] (unresolved_view a) (holding own g.written) ≡ Ok (holding after g.written)
-    → PlainSoFar true [] next (listable_of after) after src start old a.end now
+    → PlainSoFar such true [] next (listable_of after) after src start old a.end now
 plain_declared namespaces next own after src start old i j now a g onward spaces some slash close plain is names named h =
     let view = unresolved_view a in
     let d = namespace_decl_of view in
@@ -269,52 +268,53 @@ end_is src i n j (more raw) empty held context cut known openings_left within is
 end_is src i n j opened empty held context cut known openings_left within is h = let k = lt-leb (length src) i within in rw (k, is, h) refl
 end_is src i n j closed empty held context cut known openings_left within is h = let k = lt-leb (length src) i within in rw (k, is, h) refl
 
-plain_ends : (declares : Bool) (known namespaces scope own : List NamespaceDecl) (src : List ℕ) (start : ℕ) (old : List AttributeRow) (i j : ℕ) (now : List AttributeRow) (item : TagItem) (empty : Bool)
-    → (g : PlainSoFar declares known namespaces scope own src start old i now) → i < length src → tag_item_at src i ≡ Ok (item, j) → IsEnd item empty → ReadsUpTo declares known own g.written src start j empty
+plain_ends : {such : Values → Type 0} (declares : Bool) (known namespaces scope own : List NamespaceDecl) (src : List ℕ) (start : ℕ) (old : List AttributeRow) (i j : ℕ) (now : List AttributeRow) (item : TagItem) (empty : Bool)
+    → (g : PlainSoFar such declares known namespaces scope own src start old i now) → i < length src → tag_item_at src i ≡ Ok (item, j) → IsEnd item empty → ReadsUpTo such declares known own g.written src start j empty
 plain_ends declares known namespaces scope own src start old i j now item empty g within is h = λ context main cut openings_left turns before fits such.
     let rest = turns - g.turns - 1 in
     ap (λ (m : ℕ). attributes_at m context cut known src start openings_left (holding before [])) (omega arith) ∙ g.read context main cut openings_left (suc rest) before such
     ∙ end_is src i rest j item empty (holding (before ++ own) g.written) context cut known openings_left within is h
 
-holds_end : (tag : TagScope) (old t : ElementTables) (src : List ℕ) (start i end : ℕ) (empty : Bool) → (g : HoldsSoFar tag old t src start i)
-    → ReadsUpTo tag.declares (map namespace_view old.namespaces.items.items) g.own g.so_far.written src start end empty → ArePlainAttributes tag old t src start end empty
-holds_end tag old t src start i end empty g h = record {
+holds_end : {such : Values → Type 0} (may : Bool) (n : ℕ) (old t : ElementTables) (src : List ℕ) (start i end : ℕ) (empty : Bool) → (g : HoldsSoFar such may n old t src start i)
+    → ReadsUpTo such may (map namespace_view old.namespaces.items.items) g.own g.so_far.written src start end empty → start ≤ end → ArePlainAttributes such may n old t src start end empty
+holds_end may n old t src start i end empty g h onward = record {
   own = g.own;
   declares = g.declares;
+  onward = onward;
   written = g.so_far.written;
   more = g.so_far.more;
   rows = g.so_far.rows;
   within = g.so_far.within;
   shown = g.so_far.shown;
-  tested = plain_passes tag.declares (map namespace_view old.namespaces.items.items) (map namespace_view t.namespaces.items.items) (scope_in_tables t tag.scope) g.own src start (attribute_rows old.attributes) i (attribute_rows t.attributes) g.so_far;
+  tested = plain_passes may (map namespace_view old.namespaces.items.items) (map namespace_view t.namespaces.items.items) (scope_in_tables t n) g.own src start (attribute_rows old.attributes) i (attribute_rows t.attributes) g.so_far;
   read = h;
 }
 
 -- a tag that opens, and an empty one
-pub opens_there : (tag : TagScope) (old t : ElementTables) (src : List ℕ) (start i j : ℕ) → HoldsSoFar tag old t src start i → i ≤ j → j ≡ spaces_end src i → slice_index src j ≡ 62
-    → ArePlainAttributes tag old t src start (j + 1) false
-opens_there tag old t src start i j g onward spaces here =
+pub opens_there : {such : Values → Type 0} (may : Bool) (n : ℕ) (old t : ElementTables) (src : List ℕ) (start i j : ℕ) → HoldsSoFar such may n old t src start i → i ≤ j → j ≡ spaces_end src i → slice_index src j ≡ 62
+    → ArePlainAttributes such may n old t src start (j + 1) false
+opens_there may n old t src start i j g onward spaces here =
     let within = stands_within src j 62 here (omega arith) in
-    holds_end tag old t src start i (j + 1) false g
-    (plain_ends tag.declares _ _ _ g.own src start _ i (j + 1) _ opened false g.so_far (omega arith) (item_opened src i j spaces here) refl)
+    holds_end may n old t src start i (j + 1) false g
+    (plain_ends may _ _ _ g.own src start _ i (j + 1) _ opened false g.so_far (omega arith) (item_opened src i j spaces here) refl) (omega (arith, g.so_far.enough, onward))
 
-closes_there : (tag : TagScope) (old t : ElementTables) (src : List ℕ) (start i j : ℕ) → HoldsSoFar tag old t src start i → i ≤ j → j ≡ spaces_end src i → slice_index src j ≡ 47 → slice_index src (j + 1) ≡ 62
-    → ArePlainAttributes tag old t src start (j + 2) true
-closes_there tag old t src start i j g onward spaces here behind =
+closes_there : {such : Values → Type 0} (may : Bool) (n : ℕ) (old t : ElementTables) (src : List ℕ) (start i j : ℕ) → HoldsSoFar such may n old t src start i → i ≤ j → j ≡ spaces_end src i → slice_index src j ≡ 47 → slice_index src (j + 1) ≡ 62
+    → ArePlainAttributes such may n old t src start (j + 2) true
+closes_there may n old t src start i j g onward spaces here behind =
     let within = stands_within src j 47 here (omega arith) in
-    holds_end tag old t src start i (j + 2) true g
-    (plain_ends tag.declares _ _ _ g.own src start _ i (j + 2) _ closed true g.so_far (omega arith) (item_closed src i j spaces here behind) refl)
+    holds_end may n old t src start i (j + 2) true g
+    (plain_ends may _ _ _ g.own src start _ i (j + 2) _ closed true g.so_far (omega arith) (item_closed src i j spaces here behind) refl) (omega (arith, g.so_far.enough, onward))
 
-pub ends_or_not : (tag : TagScope) (old t : ElementTables) (src : List ℕ) (start i j : ℕ) (r : Option TagEnd) → HoldsSoFar tag old t src start i → i ≤ j → j ≡ spaces_end src i
+pub ends_or_not : {such : Values → Type 0} (may : Bool) (n : ℕ) (old t : ElementTables) (src : List ℕ) (start i j : ℕ) (r : Option TagEnd) → HoldsSoFar such may n old t src start i → i ≤ j → j ≡ spaces_end src i
     → IfSome r (λ e. e.empty ≡ false → (slice_index src j ≡ 62) × (e.at ≡ j + 1))
     → IfSome r (λ e. e.empty ≡ true → (slice_index src j ≡ 47) × ((slice_index src (j + 1) ≡ 62) × (e.at ≡ j + 2)))
-    → IfSome r (λ e. ArePlainAttributes tag old t src start e.at e.empty)
-ends_or_not tag old t src start i j None g onward spaces opens closes = tt
-ends_or_not tag old t src start i j (Some e) g onward spaces opens closes = which e.empty refl
+    → IfSome r (λ e. ArePlainAttributes such may n old t src start e.at e.empty)
+ends_or_not {such = such} may n old t src start i j None g onward spaces opens closes = tt
+ends_or_not {such = such} may n old t src start i j (Some e) g onward spaces opens closes = which e.empty refl
   where
-    which : (b : Bool) → e.empty ≡ b → ArePlainAttributes tag old t src start e.at e.empty
-    which false is = let o = opens is in rw (o.1, is) (opens_there tag old t src start i j g onward spaces o.0)
-    which true is = let c = closes is in rw (c.1.1, is) (closes_there tag old t src start i j g onward spaces c.0 c.1.0)
+    which : (b : Bool) → e.empty ≡ b → ArePlainAttributes such may n old t src start e.at e.empty
+    which false is = let o = opens is in rw (o.1, is) (opens_there may n old t src start i j g onward spaces o.0)
+    which true is = let c = closes is in rw (c.1.1, is) (closes_there may n old t src start i j g onward spaces c.0 c.1.0)
 
 -- ---- the scope of a root element
 
@@ -358,69 +358,69 @@ begins_in true t n (h, one) =
       scope = h.scope;
     }
 
-pub holds_start : (tag : TagScope) (t : ElementTables) (src : List ℕ) (start : ℕ) → MayBegin tag.declares t tag.scope → HoldsSoFar tag t t src start start
-holds_start tag t src start h = grind (arith, begins_in, plain_starts)
+pub holds_start : {such : Values → Type 0} (may : Bool) (n : ℕ) (t : ElementTables) (src : List ℕ) (start : ℕ) → MayBegin may t n → HoldsSoFar such may n t t src start start
+holds_start may n t src start h = grind (arith, begins_in, plain_starts)
 
 scope_by : (b : Bool) (old t : ElementTables) (n : ℕ) (own : List NamespaceDecl) → DeclaresIn b old t n own → HasScope t n
 scope_by b old t n own h = grind (arith, has_scope)
 
-pub holds_scope : (tag : TagScope) (old t : ElementTables) (src : List ℕ) (start i : ℕ) → HoldsSoFar tag old t src start i → HasScope t tag.scope
-holds_scope tag old t src start i g = scope_by tag.declares old t tag.scope g.own g.declares
+pub holds_scope : {such : Values → Type 0} (may : Bool) (n : ℕ) (old t : ElementTables) (src : List ℕ) (start i : ℕ) → HoldsSoFar such may n old t src start i → HasScope t n
+holds_scope may n old t src start i g = scope_by may old t n g.own g.declares
 
-pub holds_more : (tag : TagScope) (old t new : ElementTables) (src : List ℕ) (start from i k j : ℕ) → HoldsSoFar tag old t src start i → new ≡ record t { attributes = new.attributes } → from ≡ length (attribute_rows old.attributes)
-    → AddsPlain (map namespace_view t.namespaces.items.items) (few_in t tag.scope) t.present from src k j (attribute_rows t.attributes) (attribute_rows new.attributes)
-    → i ≤ k → k ≡ spaces_end src i → (k ≡ i → ⊥) → (slice_index src k == 47) ≡ false → (slice_index src k == 62) ≡ false → HoldsSoFar tag old new src start j
-holds_more tag old t new src start from i k j g is at x onward spaces some slash close =
+pub holds_more : {such : Values → Type 0} (may : Bool) (n : ℕ) (old t new : ElementTables) (src : List ℕ) (start from i k j : ℕ) → HoldsSoFar such may n old t src start i → new ≡ record t { attributes = new.attributes } → from ≡ length (attribute_rows old.attributes)
+    → AddsPlain such (map namespace_view t.namespaces.items.items) (few_in t n) t.present from src k j (attribute_rows t.attributes) (attribute_rows new.attributes)
+    → i ≤ k → k ≡ spaces_end src i → (k ≡ i → ⊥) → (slice_index src k == 47) ≡ false → (slice_index src k == 62) ≡ false → HoldsSoFar such may n old new src start j
+holds_more may n old t new src start from i k j g is at x onward spaces some slash close =
     let known = map namespace_view old.namespaces.items.items in
     let names = map namespace_view t.namespaces.items.items in
-    let scope = scope_in_tables t tag.scope in
-    let few = few_in t tag.scope in
+    let scope = scope_in_tables t n in
+    let few = few_in t n in
     let rows = attribute_rows old.attributes in
     let now = attribute_rows t.attributes in
     let next = attribute_rows new.attributes in
     let added : AddsResolved names few t.present (length rows) now next x.one = subst (λ (m : ℕ). AddsResolved names few t.present m now next x.one) at x.added in
-    let made = plain_more tag.declares known names scope g.own few t.present src start rows i k now next x.one g.so_far onward spaces some slash close x.plain x.other (scope_found t tag.scope) added in
+    let made = plain_more may known names scope g.own few t.present src start rows i k now next x.one g.so_far onward spaces some slash close x.plain x.other (scope_found t n) added in
     grind arith
 
-pub holds_declared : (tag : TagScope) (old t new : ElementTables) (src : List ℕ) (start i k j : ℕ) → tag.declares ≡ true → HoldsSoFar tag old t src start i
+pub holds_declared : {such : Values → Type 0} (may : Bool) (n : ℕ) (old t new : ElementTables) (src : List ℕ) (start i k j : ℕ) → may ≡ true → HoldsSoFar such may n old t src start i
     → new ≡ record t { namespaces = new.namespaces; listed = new.listed; scopes = new.scopes }
-    → ((own : Scope) → t.scopes.items ≡ first_places 0 ∷ own ∷ [] → new.scopes.items ≡ first_places 0 ∷ first_places (length new.listed.items) ∷ []) → ListsDeclaration t new src k j
-    → i ≤ k → k ≡ spaces_end src i → (k ≡ i → ⊥) → (slice_index src k == 47) ≡ false → (slice_index src k == 62) ≡ false → HoldsSoFar tag old new src start j
-holds_declared tag old t new src start i k j may g is scopes l onward spaces some slash close =
+    → ((own : Scope) → t.scopes.items ≡ first_places 0 ∷ own ∷ [] → new.scopes.items ≡ first_places 0 ∷ first_places (length new.listed.items) ∷ []) → ListsDeclaration such t new src k j
+    → i ≤ k → k ≡ spaces_end src i → (k ≡ i → ⊥) → (slice_index src k == 47) ≡ false → (slice_index src k == 62) ≡ false → HoldsSoFar such may n old new src start j
+holds_declared {such = such} may n old t new src start i k j allowed g is scopes l onward spaces some slash close =
     let known = map namespace_view old.namespaces.items.items in
     let names = map namespace_view t.namespaces.items.items in
     let after = map namespace_view new.namespaces.items.items in
     let rows = attribute_rows old.attributes in
     let now = attribute_rows t.attributes in
-    let d : DeclaresInRoot old t tag.scope g.own = subst (λ (b : Bool). DeclaresIn b old t tag.scope g.own) may g.declares in
+    let d : DeclaresInRoot old t n g.own = subst (λ (b : Bool). DeclaresIn b old t n g.own) allowed g.declares in
     let nothing : known ≡ [] = ap (map namespace_view) d.known in
-    let scope : scope_in_tables t tag.scope ≡ listable_of g.own = ap (scope_in_tables t) d.root ∙ scope_declares t g.own d.scope d.declares in
-    let so_far : PlainSoFar true known names (scope_in_tables t tag.scope) g.own src start rows i now = subst (λ (b : Bool). PlainSoFar b known names (scope_in_tables t tag.scope) g.own src start rows i now) may g.so_far in
-    let before : PlainSoFar true [] names (listable_of g.own) g.own src start rows i now =
-    subst (λ (ds : List NamespaceDecl). PlainSoFar true [] names ds g.own src start rows i now) scope (subst (λ (ds : List NamespaceDecl). PlainSoFar true ds names (scope_in_tables t tag.scope) g.own src start rows i now) nothing so_far) in
+    let scope : scope_in_tables t n ≡ listable_of g.own = ap (scope_in_tables t) d.root ∙ scope_declares t g.own d.scope d.declares in
+    let so_far : PlainSoFar such true known names (scope_in_tables t n) g.own src start rows i now = subst (λ (b : Bool). PlainSoFar such b known names (scope_in_tables t n) g.own src start rows i now) allowed g.so_far in
+    let before : PlainSoFar such true [] names (listable_of g.own) g.own src start rows i now =
+    subst (λ (ds : List NamespaceDecl). PlainSoFar such true [] names ds g.own src start rows i now) scope (subst (λ (ds : List NamespaceDecl). PlainSoFar such true ds names (scope_in_tables t n) g.own src start rows i now) nothing so_far) in
     let listed = l.listed d.keys d.has in
     let made = listed.value [] [] (holding g.own before.written) refl d.declares in
     let read = plain_declared names after g.own made.0 src start rows i k now l.one before onward spaces some slash close l.plain l.is d.declares.names_are made.2.names_are made.1 in
     let present : new.present ≡ t.present = ap (λ (u : ElementTables). u.present) is in
     let same : attribute_rows new.attributes ≡ now = ap (λ (u : ElementTables). attribute_rows u.attributes) is in
     let root : HasRootScope new = record { scopes = scopes (first_places (length t.listed.items)) d.scope.scopes; present = subst AreNoBindings (sym present) d.scope.present } in
-    let lists : scope_in_tables new tag.scope ≡ listable_of made.0 = ap (scope_in_tables new) d.root ∙ scope_declares new made.0 root made.2 in
-    let declares : DeclaresInRoot old new tag.scope made.0 = record { root = d.root; known = d.known; declares = made.2; keys = d.keys; has = listed.own; scope = root } in
+    let lists : scope_in_tables new n ≡ listable_of made.0 = ap (scope_in_tables new) d.root ∙ scope_declares new made.0 root made.2 in
+    let declares : DeclaresInRoot old new n made.0 = record { root = d.root; known = d.known; declares = made.2; keys = d.keys; has = listed.own; scope = root } in
     grind arith
 
 -- the attributes of the tag so far are in their namespaces
-pub done_within : (tag : TagScope) (old t : ElementTables) (src : List ℕ) (start from i : ℕ) → HoldsSoFar tag old t src start i → from ≡ length (attribute_rows old.attributes)
+pub done_within : {such : Values → Type 0} (may : Bool) (n : ℕ) (old t : ElementTables) (src : List ℕ) (start from i : ℕ) → HoldsSoFar such may n old t src start i → from ≡ length (attribute_rows old.attributes)
     → AllByRecursion (λ (a : AttributeRow). NamespaceWithin (length t.namespaces.items.items) a.0.namespace) (drop from (attribute_rows t.attributes))
-done_within tag old t src start from i g at =
+done_within may n old t src start from i g at =
     let rows = attribute_rows old.attributes in
     let behind : drop from (attribute_rows t.attributes) ≡ g.so_far.more = ap (λ (n : ℕ). drop n (attribute_rows t.attributes)) at ∙ ap (drop (length rows)) g.so_far.rows ∙ drop-append_seam rows g.so_far.more in
     rw behind (subst (λ (n : ℕ). AllByRecursion (λ (a : AttributeRow). NamespaceWithin n a.0.namespace) g.so_far.more) (length-map t.namespaces.items.items namespace_view) g.so_far.within)
 
 -- ---- where reading ends
 
-pub holds_grown : (tag : TagScope) (old t : ElementTables) (src : List ℕ) (start i : ℕ) → HoldsSoFar tag old t src start i → HasGrown tag old t
-holds_grown tag old t src start i g = grind arith
+pub holds_grown : {such : Values → Type 0} (may : Bool) (n : ℕ) (old t : ElementTables) (src : List ℕ) (start i : ℕ) → HoldsSoFar such may n old t src start i → HasGrown may old t
+holds_grown may n old t src start i g = grind arith
 
 -- how many attributes the tag has
-pub plain_count : (tag : TagScope) (old t : ElementTables) (src : List ℕ) (start end : ℕ) (empty : Bool) → (x : ArePlainAttributes tag old t src start end empty) → length (attribute_rows old.attributes) + length x.written ≡ length (attribute_rows t.attributes)
-plain_count tag old t src start end empty x = grind (arith, length-append, length-map)
+pub plain_count : {such : Values → Type 0} (may : Bool) (n : ℕ) (old t : ElementTables) (src : List ℕ) (start end : ℕ) (empty : Bool) → (x : ArePlainAttributes such may n old t src start end empty) → length (attribute_rows old.attributes) + length x.written ≡ length (attribute_rows t.attributes)
+plain_count may n old t src start end empty x = grind (arith, length-append, length-map)

@@ -1,7 +1,6 @@
 -- Plain start tags as a whole.
-use Rattle.std.proofs.Common.{◌≡◌, ℕ, ◌+◌, ◌<◌, ◌≤◌, true, false, List, [], ◌++◌, length, map, bytes_eq, refl, sym, ap, subst, ◌∙◌, arith, Ok, option_map, IsUtf8, IsCharBoundary, append-nil}
+use Rattle.std.proofs.Common.{◌≡◌, ℕ, ◌+◌, ◌≤◌, true, false, List, [], ◌++◌, length, map, bytes_eq, refl, sym, ap, subst, ◌∙◌, arith, Ok, option_map, IsCharBoundary, append-nil}
 use Rattle.rox_grammar.specs.declared.fault.Fault.{Fault}
-use Rattle.rox_grammar.specs.declared.fault.Fault.TheVariants as fault
 use Rattle.rox_grammar.specs.declared.fault.Word.TheVariants.{Xmlns}
 use Rattle.rox_grammar.specs.Document.{most_attributes, most_pairs}
 use Rattle.rox_grammar.specs.FixedTexts.{word_text}
@@ -23,28 +22,24 @@ use Rattle.rox_names.specs.declared.start_tag.StartTag.{StartTag}
 use Rattle.rox_starts.specs.ElementRow.{IsElementFrom}
 use Rattle.rox_attributes.specs.PlainAttribute.{HasScope}
 use Rattle.rox_tags.specs.PlainTag.{IsPlainTag, MayOpenBelow}
-use Rattle.rox_tags.specs.TagAttributes.{ArePlainAttributes, holding}
+use Rattle.rox_tags.specs.TagAttributes.{AreOfMainText, ArePlainAttributes, holding}
 use Rattle.rox_tags.specs.TagHeads.{Begins}
-use Rattle.rox_tags.specs.declared.own_declaration.TagScope.{TagScope}
-use Rattle.rox_starts.proofs.Moving.{tag_moves}
+use Rattle.rox_theory.proofs.NameLemmas.{qname_sound}
+use Rattle.rox_theory.proofs.Onward.{qname_onward}
 use Rattle.rox_starts.proofs.Starting.{tag_made, tested_known, tested_passes}
 use Rattle.rox_tags.proofs.TagAttributes.{plain_count}
-
--- a scope in which a tag declares nothing more
-abbrev pub in_scope : ℕ → TagScope
-in_scope n = record { scope = n; declares = false }
 
 pub scope_of_parent : (t : ElementTables) (o : OpenElement) → MayOpenBelow t o → HasScope t o.scope
 scope_of_parent t o below = record { places = below.places; scopes = below.scopes; within = below.parent.0; once = below.parent.1 }
 
 -- the tag of a child of an open element, whose attributes were read
-pub begun_tagged : (old new : ElementTables) (m n : ℕ) (own : List NamespaceDecl) (src : List ℕ) (i k j end : ℕ) (t : StartTag) (from namespace : ℕ) → length old.namespaces.items.items ≤ most_pairs → HasBindings old
-    → Begins old m n own src k j → ArePlainAttributes (in_scope n) old new src j end t.empty
+pub begun_tagged : {such : Values → Type 0} (old new : ElementTables) (m n : ℕ) (own : List NamespaceDecl) (src : List ℕ) (i k j end : ℕ) (t : StartTag) (from namespace : ℕ) → length old.namespaces.items.items ≤ most_pairs → HasBindings old
+    → ((v : Values) → such v → AreOfMainText v) → Begins old m n own src k j → ArePlainAttributes such false n old new src j end t.empty
     → qname_at src (i + 1) ≡ Ok (name_view t.name, k) → bytes_eq (name_view t.name).prefix (word_text Xmlns) ≡ false → t.name_start ≡ i + 1 → t.name_end ≡ k
     → IsElementFrom new t.name.local from n namespace t.element → from ≡ length (attribute_rows old.attributes) → length (attribute_rows new.attributes) ≤ most_attributes
     → IsNamespaceOf old n (name_view t.name) (numbered_place namespace) → may_name (scope_in_tables old n) (name_view t.name) ≡ true → IsCharBoundary src end
-    → IsPlainTag old new (scope_in_tables old m) src i end t
-begun_tagged old new m n own src i k j end t from namespace few kept b x is other starts name_end e from_is most named known cut =
+    → IsPlainTag such old new (scope_in_tables old m) src i end t
+begun_tagged {such = such} old new m n own src i k j end t from namespace few kept of_main b x is other starts name_end e from_is most named known cut =
     let above = scope_in_tables old m in
     let scope = listed above own in
     let names = map namespace_view old.namespaces.items.items in
@@ -53,16 +48,16 @@ begun_tagged old new m n own src i k j end t from namespace few kept b x is othe
     let others = x.declares.others in
     let lists : scope_in_tables new n ≡ scope = ap (λ (u : ElementTables). scope_in_tables u n) others ∙ b.lists in
     let spaces : map namespace_view new.namespaces.items.items ≡ names = ap (λ (u : ElementTables). map namespace_view u.namespaces.items.items) others in
-    let counted = plain_count (in_scope n) old new src j end t.empty x in
+    let counted = plain_count false n old new src j end t.empty x in
     let fits : count + length x.written ≤ most_attributes = omega arith in
     let tested : names_tested scope [] x.written ≡ Ok tt = subst (λ (ds : List NamespaceDecl). names_tested ds [] x.written ≡ Ok tt) lists x.tested in
     let fine : tag_tested scope count i name x.written ≡ Ok tt =
     tested_passes scope count i name x.written (tested_known scope count (i + 1) name x.written fits tested (subst (λ (ds : List NamespaceDecl). may_name ds name ≡ true) b.lists known)) in
     let all : own ++ x.own ≡ own = ap (λ (ds : List NamespaceDecl). own ++ ds) x.declares.none ∙ append-nil own in
-    let read : (context : Values) → context.main ≡ true → (cut : Fault) (openings_left : ℕ) → attributes_at (length src) context cut names src k openings_left (holding [] [])
+    let read : (context : Values) → such context → (cut : Fault) (openings_left : ℕ) → attributes_at (length src) context cut names src k openings_left (holding [] [])
     ≡ Ok (record { held = holding own x.written; empty = t.empty; openings_left = openings_left }, end) =
-    λ context main cut openings_left. subst (λ (ds : List NamespaceDecl). attributes_at (length src) context cut names src k openings_left (holding [] [])
-    ≡ Ok (record { held = holding ds x.written; empty = t.empty; openings_left = openings_left }, end)) all (b.read context main cut openings_left ∙ x.read context main cut openings_left b.turns own b.enough tt) in
+    λ context is cut openings_left. subst (λ (ds : List NamespaceDecl). attributes_at (length src) context cut names src k openings_left (holding [] [])
+    ≡ Ok (record { held = holding ds x.written; empty = t.empty; openings_left = openings_left }, end)) all (b.read context (of_main context is) cut openings_left ∙ x.read context is cut openings_left b.turns own b.enough tt) in
     let space : option_map (λ i. (namespace_at names i).uri) (numbered_place t.element.namespace) ≡ element_namespace scope name =
     subst (λ (ds : List NamespaceDecl). option_map (λ i. (namespace_at names i).uri) (numbered_place t.element.namespace) ≡ element_namespace ds name) b.lists (rw e.namespace named.is) in
     record {
@@ -70,6 +65,8 @@ begun_tagged old new m n own src i k j end t from namespace few kept b x is othe
       read = λ context main cut openings_left. tag_made context cut above count names src i openings_left name k end (holding own x.written) t.empty openings_left is other (read context main cut openings_left) fine;
       tagged = grind (arith, append-nil);
       starts = starts;
+      named = is;
+      onward = omega (arith, b.onward, x.onward, qname_onward src (i + 1) k name (qname_sound src (i + 1) (name, k) is));
       cut = cut;
     }
 
@@ -79,22 +76,16 @@ begins_plain t o src k below = record {
   scope = scope_of_parent t o below;
   lists = sym (listed-none (scope_in_tables t o.scope));
   pairs = refl;
+  onward = omega arith;
   turns = length src;
   enough = omega arith;
   read = λ context main cut openings_left. refl;
 }
 
-pub plain_tagged : (old new : ElementTables) (o : OpenElement) (src : List ℕ) (i k end : ℕ) (t : StartTag) (from namespace : ℕ) → MayOpenBelow old o
-    → ArePlainAttributes (in_scope o.scope) old new src k end t.empty
+pub plain_tagged : {such : Values → Type 0} (old new : ElementTables) (o : OpenElement) (src : List ℕ) (i k end : ℕ) (t : StartTag) (from namespace : ℕ) → MayOpenBelow old o → ((v : Values) → such v → AreOfMainText v)
+    → ArePlainAttributes such false o.scope old new src k end t.empty
     → qname_at src (i + 1) ≡ Ok (name_view t.name, k) → bytes_eq (name_view t.name).prefix (word_text Xmlns) ≡ false → t.name_start ≡ i + 1 → t.name_end ≡ k
     → IsElementFrom new t.name.local from o.scope namespace t.element → from ≡ length (attribute_rows old.attributes) → length (attribute_rows new.attributes) ≤ most_attributes
     → IsNamespaceOf old o.scope (name_view t.name) (numbered_place namespace) → may_name (scope_in_tables old o.scope) (name_view t.name) ≡ true → IsCharBoundary src end
-    → IsPlainTag old new (scope_in_tables old o.scope) src i end t
-plain_tagged old new o src i k end t from namespace below = begun_tagged old new o.scope o.scope [] src i k k end t from namespace below.few below.kept (begins_plain old o src k below)
-
--- a plain tag ends behind its start
-pub plain_moves : (old new : ElementTables) (above : List NamespaceDecl) (src : List ℕ) (i j : ℕ) (t : StartTag) → IsUtf8 src
-    → IsPlainTag old new above src i j t → i < j
-plain_moves old new above src i j t utf8 x =
-    let context : Values = record { main = true; entities = []; opener = λ text after l. Ok ([], l) } in
-    tag_moves src utf8 context fault.NoRootNode above _ _ i 0 _ (x.read context refl fault.NoRootNode 0)
+    → IsPlainTag such old new (scope_in_tables old o.scope) src i end t
+plain_tagged old new o src i k end t from namespace below of_main = begun_tagged old new o.scope o.scope [] src i k k end t from namespace below.few below.kept of_main (begins_plain old o src k below)

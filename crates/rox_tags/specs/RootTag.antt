@@ -1,5 +1,6 @@
 -- The start tag of a root element that the fast path reads, with its declarations.
 use Rattle.std.specs.Prelude.{◌≡◌, ℕ, ◌<◌, ◌^◌, List, [], ◌∷◌, ◌++◌, Option, Some, None, length, map, take, IfSome, OnOk, Result}
+use Rattle.rox_reading.specs.Tags.{Values}
 use Rattle.rox_rows.specs.Rows.{AttributeRow, attribute_rows}
 use Rattle.rox_scopes.specs.NamespaceViews.{namespace_view}
 use Rattle.rox_names.specs.TagScopes.{lists_in}
@@ -23,8 +24,8 @@ pub record HasMoreRows (old new : ElementTables) : Type 0 where
   pub rows : attribute_rows new.attributes ≡ attribute_rows old.attributes ++ more
 
 -- The start tag at `i`, of a child of the root node, was read, if it is plain.
-pub record ReadsRootTag (old new : ElementTables) (src : List ℕ) (i : ℕ) (result : Option PlainTag) : Type 0 where
-  pub read : IfSome result (λ t. (blank : ElementTables) → IsBlank blank → attribute_rows blank.attributes ≡ attribute_rows old.attributes → IsPlainTag blank new [] src i t.end t.tag)
+pub record ReadsRootTag (such : Values → Type 0) (old new : ElementTables) (src : List ℕ) (i : ℕ) (result : Option PlainTag) : Type 0 where
+  pub read : IfSome result (λ t. (blank : ElementTables) → IsBlank blank → attribute_rows blank.attributes ≡ attribute_rows old.attributes → IsPlainTag such blank new [] src i t.end t.tag)
   pub grown : HasMoreRows old new
 
 -- The tables `old` and `now` hold equal rows. So a start tag is read into both alike.
@@ -35,14 +36,14 @@ pub record HoldAlike (old now : ElementTables) : Type 0 where
   pub below : (above : ℕ) → MayReadBelow old above → MayReadBelow now above
 
 -- The start tag of a root element at `i` was read, in a text whose offsets fit rows.
-pub record IsReadFirst (old new : ElementTables) (src : List ℕ) (i : ℕ) (t : PlainTag) : Type 0 where
-  pub plain : IsPlainTag old new [] src i t.end t.tag
+pub record IsReadFirst (such : Values → Type 0) (old new : ElementTables) (src : List ℕ) (i : ℕ) (t : PlainTag) : Type 0 where
+  pub plain : IsPlainTag such old new [] src i t.end t.tag
   pub short : length src < 2 ^ 32
 
 -- The start tag of a root element at `i` was read, or the tables hold what they held.
-abbrev pub GivesRootTag : (old new : ElementTables) (src : List ℕ) (i : ℕ) → Option PlainTag → Type 0
-GivesRootTag old new src i None = HoldAlike old new
-GivesRootTag old new src i (Some t) = IsReadFirst old new src i t
+abbrev pub GivesRootTag : (such : Values → Type 0) (old new : ElementTables) (src : List ℕ) (i : ℕ) → Option PlainTag → Type 0
+GivesRootTag such old new src i None = HoldAlike old new
+GivesRootTag such old new src i (Some t) = IsReadFirst such old new src i t
 
 -- Nothing is listed, and the only scope is that of the root node.
 pub record BeginsScopes {E : Type 0} (old new : ElementTables) (result : Result (Unit {0}) E) : Type 0 where

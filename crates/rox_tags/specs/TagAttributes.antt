@@ -27,7 +27,10 @@ use Rattle.rox_verbatim.specs.PlainNames.{IsAttributeName}
 use Rattle.rox_attributes.specs.PlainAttribute.{HasScope, IsPlainAttribute}
 use Rattle.rox_verbatim.specs.declared.quick_name.NameAt.{NameAt}
 use Rattle.rox_tags.specs.declared.quick_tag.TagEnd.{TagEnd}
-use Rattle.rox_tags.specs.declared.own_declaration.TagScope.{TagScope}
+
+-- Values of the main text.
+abbrev pub AreOfMainText : Values → Type 0
+AreOfMainText values = values.main ≡ true
 
 -- ---- Declarations of a root element.
 
@@ -36,9 +39,9 @@ pub record IsDeclaredName (src : List ℕ) (i : ℕ) (n : NameAt) : Type 0 where
   pub named : IsAttributeName src i n
   pub is : is_namespace_decl (name_view n.name) ≡ true
 
--- The declaration `a` was read at `i`. Its value needs no replacement.
-pub record IsPlainDeclaration (src : List ℕ) (i : ℕ) (a : UnresolvedAttribute) : Type 0 where
-  pub plain : IsPlainAttribute src i a
+-- The declaration `a` was read at `i`, if values are read `such`.
+pub record IsDeclaration (such : Values → Type 0) (src : List ℕ) (i : ℕ) (a : UnresolvedAttribute) : Type 0 where
+  pub plain : IsPlainAttribute such src i a
   pub is : is_namespace_decl (name_view a.name) ≡ true
 
 -- `xmlns` is at `i`, and a byte follows it.
@@ -51,7 +54,7 @@ pub record IsNearDeclaration (src : List ℕ) (i : ℕ) (a : UnresolvedAttribute
   pub spaces : a.start ≡ spaces_end src i
   pub onward : i < a.start
   pub has : HasXmlns src a.start
-  pub read : IsPlainDeclaration src a.start a
+  pub read : IsDeclaration AreOfMainText src a.start a
 
 -- A scope that lists the first `n` places.
 abbrev pub first_places : ℕ → Scope
@@ -73,9 +76,9 @@ pub record BeginsRoot (t : ElementTables) : Type 0 where
   pub scope : HasRootScope t
 
 -- A declaration, not of `xml`, was read from `i` to `j`, and is listed.
-pub record ListsDeclaration (old new : ElementTables) (src : List ℕ) (i j : ℕ) : Type 0 where
+pub record ListsDeclaration (such : Values → Type 0) (old new : ElementTables) (src : List ℕ) (i j : ℕ) : Type 0 where
   pub one : UnresolvedAttribute
-  pub plain : IsPlainAttribute src i one
+  pub plain : IsPlainAttribute such src i one
   pub is : is_namespace_decl (name_view one.name) ≡ true
   pub end : one.end ≡ j
   pub listed : DeclaresNew old.namespaces.items.items old.listed.items new.namespaces.items.items new.listed.items one
@@ -86,9 +89,9 @@ pub record ListsOwn (old new : ElementTables) (result : Bool) : Type 0 where
   pub lists : result ≡ true → (own : Scope) → old.scopes.items ≡ first_places 0 ∷ own ∷ [] → new.scopes.items ≡ first_places 0 ∷ first_places (length old.listed.items) ∷ []
 
 -- The declaration at `i` was put into the tables, and the scope of the root element lists it.
-pub record DeclaresOwn (old new : ElementTables) (s after : SeenNames) (src : List ℕ) (i : ℕ) (result : Option ℕ) : Type 0 where
+pub record DeclaresOwn (such : Values → Type 0) (old new : ElementTables) (s after : SeenNames) (src : List ℕ) (i : ℕ) (result : Option ℕ) : Type 0 where
   pub others : new ≡ record old { namespaces = new.namespaces; listed = new.listed; scopes = new.scopes }
-  pub lists : IfSome result (λ j. ListsDeclaration old new src i j)
+  pub lists : IfSome result (λ j. ListsDeclaration such old new src i j)
   pub scopes : IfSome result (λ j. (own : Scope) → old.scopes.items ≡ first_places 0 ∷ own ∷ [] → new.scopes.items ≡ first_places 0 ∷ first_places (length new.listed.items) ∷ [])
   pub kept : KeepsCodes s after
 
@@ -106,7 +109,7 @@ MayFollow true before = before ≡ []
 -- The attributes and declarations of a tag from `start` up to `i` were read, each of them plain. They declare `own`, and the
 -- attributes are in the table, which had the rows `old` before, with their namespaces in `scope`. Before the tag, the namespaces
 -- were `known`. The tag may declare something before `start` if `declares` is false.
-pub record PlainSoFar (declares : Bool) (known namespaces scope own : List NamespaceDecl) (src : List ℕ) (start : ℕ) (old : List AttributeRow) (i : ℕ) (now : List AttributeRow) : Type 0 where
+pub record PlainSoFar (such : Values → Type 0) (declares : Bool) (known namespaces scope own : List NamespaceDecl) (src : List ℕ) (start : ℕ) (old : List AttributeRow) (i : ℕ) (now : List AttributeRow) : Type 0 where
   pub written : List Attribute
   pub more : List AttributeRow
   pub rows : now ≡ old ++ more
@@ -116,7 +119,7 @@ pub record PlainSoFar (declares : Bool) (known namespaces scope own : List Names
   -- They took `turns` turns.
   pub turns : ℕ
   pub enough : turns + start ≤ i
-  pub read : (context : Values) → context.main ≡ true → (cut : Fault) (openings_left rest : ℕ) (before : List NamespaceDecl) → MayFollow declares before
+  pub read : (context : Values) → such context → (cut : Fault) (openings_left rest : ℕ) (before : List NamespaceDecl) → MayFollow declares before
       → attributes_at (turns + rest) context cut known src start openings_left (holding before []) ≡ attributes_at rest context cut known src i openings_left (holding (before ++ own) written)
 
 -- A tag declares nothing in its scope `n`. The tables `now` are `old` with other attributes.
@@ -140,29 +143,30 @@ DeclaresIn false old now n own = DeclaresNothing old now n own
 DeclaresIn true old now n own = DeclaresInRoot old now n own
 
 -- The attributes and declarations of a tag up to `i` were read as in `PlainSoFar`, into the tables `now`.
-pub record HoldsSoFar (tag : TagScope) (old now : ElementTables) (src : List ℕ) (start i : ℕ) : Type 0 where
+pub record HoldsSoFar (such : Values → Type 0) (may : Bool) (n : ℕ) (old now : ElementTables) (src : List ℕ) (start i : ℕ) : Type 0 where
   pub own : List NamespaceDecl
-  pub declares : DeclaresIn tag.declares old now tag.scope own
-  pub so_far : PlainSoFar tag.declares (map namespace_view old.namespaces.items.items) (map namespace_view now.namespaces.items.items) (scope_in_tables now tag.scope) own src start (attribute_rows old.attributes) i (attribute_rows now.attributes)
+  pub declares : DeclaresIn may old now n own
+  pub so_far : PlainSoFar such may (map namespace_view old.namespaces.items.items) (map namespace_view now.namespaces.items.items) (scope_in_tables now n) own src start (attribute_rows old.attributes) i (attribute_rows now.attributes)
 
--- A tag of the main text has the attributes `written` from `start` up to its end at `end`, where it declares `own`. The turns that
+-- If values are read `such`, a tag has the attributes `written` from `start` up to its end at `end`, where it declares `own`. The turns that
 -- are left at `start` are enough, and the tag may declare something before if `declares` is false.
-abbrev pub ReadsUpTo : (declares : Bool) (known own : List NamespaceDecl) (written : List Attribute) (src : List ℕ) (start end : ℕ) (empty : Bool) → Type 0
-ReadsUpTo declares known own written src start end empty = (context : Values) → context.main ≡ true → (cut : Fault) (openings_left turns : ℕ) (before : List NamespaceDecl) → length src ≤ turns + start → MayFollow declares before
+abbrev pub ReadsUpTo : (such : Values → Type 0) (declares : Bool) (known own : List NamespaceDecl) (written : List Attribute) (src : List ℕ) (start end : ℕ) (empty : Bool) → Type 0
+ReadsUpTo such declares known own written src start end empty = (context : Values) → such context → (cut : Fault) (openings_left turns : ℕ) (before : List NamespaceDecl) → length src ≤ turns + start → MayFollow declares before
     → attributes_at turns context cut known src start openings_left (holding before [])
     ≡ Ok (record { held = holding (before ++ own) written; empty = empty; openings_left = openings_left }, end)
 
 -- The attributes and declarations of a tag were read, up to its end at `end`, into the tables `now`.
-pub record ArePlainAttributes (tag : TagScope) (old now : ElementTables) (src : List ℕ) (start end : ℕ) (empty : Bool) : Type 0 where
+pub record ArePlainAttributes (such : Values → Type 0) (may : Bool) (n : ℕ) (old now : ElementTables) (src : List ℕ) (start end : ℕ) (empty : Bool) : Type 0 where
   pub own : List NamespaceDecl
-  pub declares : DeclaresIn tag.declares old now tag.scope own
+  pub declares : DeclaresIn may old now n own
+  pub onward : start ≤ end
   pub written : List Attribute
   pub more : List AttributeRow
   pub rows : attribute_rows now.attributes ≡ attribute_rows old.attributes ++ more
   pub within : AllByRecursion (λ a. NamespaceWithin (length (map namespace_view now.namespaces.items.items)) a.0.namespace) more
-  pub shown : map (attribute (map namespace_view now.namespaces.items.items)) more ≡ map (attribute_in (scope_in_tables now tag.scope)) written
-  pub tested : names_tested (scope_in_tables now tag.scope) [] written ≡ Ok tt
-  pub read : ReadsUpTo tag.declares (map namespace_view old.namespaces.items.items) own written src start end empty
+  pub shown : map (attribute (map namespace_view now.namespaces.items.items)) more ≡ map (attribute_in (scope_in_tables now n)) written
+  pub tested : names_tested (scope_in_tables now n) [] written ≡ Ok tt
+  pub read : ReadsUpTo such may (map namespace_view old.namespaces.items.items) own written src start end empty
 
 -- What is required of the tables before the attributes of a tag are read.
 abbrev pub MayBegin : Bool → ElementTables → ℕ → Type 0
@@ -170,21 +174,21 @@ MayBegin false t n = HasScope t n
 MayBegin true t n = BeginsRoot t × (n ≡ 1)
 
 -- The attributes of a tag, and its declarations if it may have any, may be read at `i`.
-pub record MayReadAttributes (src : List ℕ) (i : ℕ) (t : ElementTables) (tag : TagScope) : Type 0 where
+pub record MayReadAttributes (src : List ℕ) (i : ℕ) (t : ElementTables) (may : Bool) (n : ℕ) : Type 0 where
   pub cut : IsCharBoundary src i
   pub short : length src < 2 ^ 32
-  pub begins : MayBegin tag.declares t tag.scope
+  pub begins : MayBegin may t n
 
 -- The table of attributes has grown, and the other tables only if the tag may declare anything.
-pub record HasGrown (tag : TagScope) (old new : ElementTables) : Type 0 where
+pub record HasGrown (may : Bool) (old new : ElementTables) : Type 0 where
   pub more : List AttributeRow
   pub rows : attribute_rows new.attributes ≡ attribute_rows old.attributes ++ more
-  pub others : tag.declares ≡ false → new ≡ record old { attributes = new.attributes }
+  pub others : may ≡ false → new ≡ record old { attributes = new.attributes }
 
 -- The attributes and declarations of a tag were read from `i` up to its end, if they are plain. If no end is returned, the tables
 -- may have some of them too.
-pub record ReadsAttributes (old new : ElementTables) (tag : TagScope) (src : List ℕ) (i : ℕ) (result : Option TagEnd) : Type 0 where
-  pub read : IfSome result (λ e. ArePlainAttributes tag old new src i e.at e.empty)
+pub record ReadsAttributes (such : Values → Type 0) (old new : ElementTables) (may : Bool) (n : ℕ) (src : List ℕ) (i : ℕ) (result : Option TagEnd) : Type 0 where
+  pub read : IfSome result (λ e. ArePlainAttributes such may n old new src i e.at e.empty)
   pub cut : IfSome result (λ e. IsCharBoundary src e.at)
   pub few : IfSome result (λ e. length (attribute_rows new.attributes) ≤ most_attributes)
-  pub grown : HasGrown tag old new
+  pub grown : HasGrown may old new

@@ -17,7 +17,7 @@ use Rattle.rox_names.specs.OpenElements.{IsNamespaceOf}
 use Rattle.rox_names.specs.TagScopes.{HasBindings, scope_in_tables}
 use Rattle.rox_names.specs.declared.tables.ElementTables.{ElementTables}
 use Rattle.rox_attributes.specs.PlainAttribute.{HasScope}
-use Rattle.rox_tags.specs.TagAttributes.{holding}
+use Rattle.rox_tags.specs.TagAttributes.{AreOfMainText, holding}
 use Rattle.rox_tags.specs.declared.quick_tag.TagHead.{TagHead}
 
 -- A tag whose parent has the scope `above` declares `own` between `k` and `j` in the main text. It has the scope `n` then,
@@ -26,9 +26,10 @@ pub record Begins (t : ElementTables) (above n : ℕ) (own : List NamespaceDecl)
   pub scope : HasScope t n
   pub lists : scope_in_tables t n ≡ listed (scope_in_tables t above) own
   pub pairs : with_new (map namespace_view t.namespaces.items.items) (listable_of own) ≡ map namespace_view t.namespaces.items.items
+  pub onward : k ≤ j
   pub turns : ℕ
   pub enough : length src ≤ turns + j
-  pub read : (context : Values) → context.main ≡ true → (cut : Fault) (openings_left : ℕ)
+  pub read : (context : Values) → AreOfMainText context → (cut : Fault) (openings_left : ℕ)
       → attributes_at (length src) context cut (map namespace_view t.namespaces.items.items) src k openings_left (holding [] []) ≡ attributes_at turns context cut (map namespace_view t.namespaces.items.items) src j openings_left (holding own [])
 
 -- The start tag at `i` begins with `h`. Its parent has the scope `above`.

@@ -1,31 +1,36 @@
-//! Declarations of the tag of a root element, by the fast path: those that are plain, while they are few. Its scope lists them
-//! (Namespaces in XML 1.0 section 3).
+//! Declarations of the tag of a root element, by the fast path, while they are few. Its scope lists them (Namespaces in XML 1.0
+//! section 3).
 
 ghost use Rattle.std.specs.Prelude.{◌≡◌, IfSome, length, true, IsCharBoundary};
-ghost use Rattle.rox_tags.specs.TagAttributes.{DeclaresOwn, HasXmlns, IsDeclaredName, IsNearDeclaration, IsPlainDeclaration, ListsOwn, ListsDeclaration};
+ghost use Rattle.rox_tags.specs.TagAttributes.{AreOfMainText, DeclaresOwn, HasXmlns, IsDeclaredName, IsDeclaration, IsNearDeclaration, ListsOwn, ListsDeclaration};
+ghost use Rattle.rox_values.specs.DeclaredEntities.{AreMainValues};
 ghost use Rattle.rox_seen.specs.SeenNames.{KeepsCodes};
 
-use rox_bytes::byte_set::{ValueByte, skip_set};
+use rox_attributes::quick_attribute::any_attribute;
+use rox_bytes::byte_set::{PartByte, ValueByte, skip_set};
 use rox_bytes::runs::{after_byte, is_at};
-use rox_names::namespace_decl::declare_new;
+use rox_names::namespace_decl::{declare_new, is_namespace_decl};
 use rox_names::tables::ElementTables;
 use rox_names::unresolved_attribute::UnresolvedAttribute;
 use rox_scopes::prefix_set::FEW;
 use rox_scopes::stored_scope::{Scope, Stretch};
 use rox_seen::seen_names::SeenNames;
 use rox_storage::storage::StringStorage;
-use rox_verbatim::quick_name::{NameAt, name_without_prefix, prefixed_name};
+use rox_values::context::Context;
+use rox_verbatim::quick_name::{NameAt, NamePlace, name_without_prefix, prefixed_name};
 use rox_verbatim::quick_space::one_space_end;
 use rox_verbatim::quick_value::{quote_after_equals, quote_before, unchanged_value};
 
 /// The scope of a root element: the one after that of the root node.
 pub const OWN: u32 = 1;
 
-/// The scope of a start tag. Only the tag of a root element may declare namespaces, and its scope is then `OWN`.
+/// The scope of a start tag, and the context of the text. Only the tag of a root element may declare namespaces, and its scope is
+/// then `OWN`.
 #[derive(Clone, Copy)]
-pub struct TagScope {
+pub struct TagScope<'t, 'e, 'input> {
     pub scope: u32,
     pub declares: bool,
+    pub context: &'t Context<'e, 'input>,
 }
 
 /// Returns true only if `xmlns` is at `at`, and a byte follows it.
@@ -45,8 +50,8 @@ pub(crate) fn may_declare(text: &str, at: usize) -> bool
 
 /// Returns true only if the tag may declare namespaces, and `xmlns` is at `at` with a byte after it.
 #[inline(always)]
-pub fn declares_at(text: &str, at: usize, tag: TagScope) -> bool
-    ensures declares { result ≡ true → tag.declares ≡ true }
+pub fn declares_at(text: &str, at: usize, tag: TagScope<'_, '_, '_>) -> bool
+    ensures declares { result ≡ true → tag.entry.declares ≡ true }
     ensures here { result ≡ true → HasXmlns text.now at }
 {
     tag.declares && may_declare(text, at)
@@ -74,7 +79,7 @@ fn declared_name<'input>(text: &'input str, start: usize) -> Option<NameAt<'inpu
 #[inline(always)]
 fn plain_declaration<'input>(text: &'input str, start: usize) -> Option<UnresolvedAttribute<'input>>
     requires { HasXmlns text.now start }
-    ensures { IfSome result (λ a. IsPlainDeclaration text.entry.now start a) }
+    ensures { IfSome result (λ a. IsDeclaration AreOfMainText text.entry.now start a) }
 {
     let name = declared_name(text, start)?;
     let value_start = name.end + 2;
@@ -112,23 +117,66 @@ pub(crate) fn declaration_after<'input>(
     Some(one)
 }
 
-/// Puts the declaration at `start` into the tables, if it is plain and `declare_new` declares it. Returns the offset after it.
+/// Returns the declaration at `start`, however it is written, or `None` if none is there. Sets `lacking` of `seen` if memory was
+/// refused. It is out of line, as few declarations are not plain: their values refer to entities.
+#[cold]
+#[inline(never)]
+fn any_declaration<'input>(
+    text: &'input str,
+    start: usize,
+    context: &Context<'_, 'input>,
+    seen: &mut SeenNames,
+) -> Option<UnresolvedAttribute<'input>>
+    requires { HasXmlns text.now start }
+    ensures read { IfSome result (λ a. IsDeclaration (AreMainValues context.entry.now) text.entry.now
+        start a) }
+    ensures kept { KeepsCodes seen.old seen.new }
+{
+    let part = skip_set::<PartByte>(text, start);
+    let one = any_attribute(text, NamePlace { start, part }, context, seen)?;
+    if !is_namespace_decl(one.name) {
+        return None;
+    }
+    Some(one)
+}
+
+/// Returns the declaration at `start`, like `any_declaration`. Most are plain.
+#[inline(always)]
+fn declaration_at<'input>(
+    text: &'input str,
+    start: usize,
+    context: &Context<'_, 'input>,
+    seen: &mut SeenNames,
+) -> Option<UnresolvedAttribute<'input>>
+    requires { HasXmlns text.now start }
+    ensures read { IfSome result (λ a. IsDeclaration (AreMainValues context.entry.now) text.entry.now
+        start a) }
+    ensures kept { KeepsCodes seen.old seen.new }
+{
+    match plain_declaration(text, start) {
+        Some(one) => Some(one),
+        None => any_declaration(text, start, context, seen),
+    }
+}
+
+/// Puts the declaration at `start` into the tables, if there is one and `declare_new` declares it. Returns the offset after it.
 /// Sets `lacking` of `seen` if memory was refused.
 #[inline(always)]
 fn declared<'input>(
     text: &'input str,
     start: usize,
     elements: &mut ElementTables<'input>,
+    context: &Context<'_, 'input>,
     seen: &mut SeenNames,
 ) -> Option<usize>
     requires { HasXmlns text.now start }
     ensures others { elements.new ≡ record elements.old
         { namespaces = elements.new.namespaces; listed = elements.new.listed } }
-    ensures lists { IfSome result (λ j. ListsDeclaration elements.old elements.new text.entry.now
-        start j) }
+    ensures lists { IfSome result (λ j. ListsDeclaration (AreMainValues context.entry.now) elements.old
+        elements.new text.entry.now start j) }
     ensures kept { KeepsCodes seen.old seen.new }
 {
-    let one = plain_declaration(text, start)?;
+    let one = declaration_at(text, start, context, seen)?;
     let end = one.end;
     match declare_new(&mut elements.namespaces, &mut elements.listed, one) {
         Ok(true) => Some(end),
@@ -164,13 +212,15 @@ pub fn put_declaration<'input>(
     text: &'input str,
     start: usize,
     elements: &mut ElementTables<'input>,
+    context: &Context<'_, 'input>,
     seen: &mut SeenNames,
 ) -> Option<usize>
     requires here { HasXmlns text.now start }
     requires scopes { length elements.old.scopes.items ≡ 2 }
-    ensures { DeclaresOwn elements.old elements.new seen.old seen.new text.entry.now start result }
+    ensures { DeclaresOwn (AreMainValues context.entry.now) elements.old elements.new seen.old seen.new
+        text.entry.now start result }
 {
-    let end = declared(text, start, elements, seen)?;
+    let end = declared(text, start, elements, context, seen)?;
     if !list_own(elements) {
         return None;
     }

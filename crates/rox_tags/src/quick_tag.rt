@@ -1,5 +1,5 @@
-//! Start tags by the fast path: those whose attribute values refer only to predefined entities (XML 1.0
-//! sections 3.1 and 4.6). Nothing fails here: the general step reads a tag that is not plain, or finds no room, from its `<`.
+//! Start tags of the main text by the fast path (XML 1.0 section 3.1). Nothing fails here: the general step reads a tag that is not
+//! plain, or finds no room, from its `<`.
 
 ghost use Rattle.std.specs.Prelude.{◌≡◌, ◌<◌, ◌+◌, ◌-◌, ◌==◌, Ok, IfSome, slice_index, true, false, ◌≤◌, length, IsCharBoundary, [], bytes_eq, ℕ};
 ghost use Rattle.rox_grammar.specs.Failures.{name_view};
@@ -20,10 +20,11 @@ ghost use Rattle.rox_bytes.specs.ScanResults.{Finds};
 ghost use Rattle.rox_names.specs.declared.tables.ElementTables.{ElementTables};
 ghost use Rattle.rox_attributes.specs.PlainAttribute.{HasScope};
 ghost use Rattle.rox_verbatim.specs.PlainNames.{EndsNear, EndsPrefix, IsPlainName};
+ghost use Rattle.rox_values.specs.DeclaredEntities.{AreMainValues};
 
 use crate::own_declaration::{TagScope, declares_at, put_declaration};
 use rox_attributes::prefix_cache::find_in_slot;
-use rox_attributes::quick_attribute::put_attribute;
+use rox_attributes::quick_attribute::{TagContext, put_attribute};
 use rox_bytes::byte_set::RunEnd;
 use rox_bytes::runs::{after_byte, is_at};
 use rox_compare::compare::same_text;
@@ -36,6 +37,7 @@ use rox_rows::row::namespace_number;
 use rox_scopes::scope::few_places;
 use rox_seen::seen_names::SeenNames;
 use rox_starts::tag::{MOST_ATTRIBUTES, element_of};
+use rox_values::context::Context;
 use rox_verbatim::quick_name::{NameAt, NamePlace, ascii_name, name_of_part, name_of_prefix};
 use rox_verbatim::quick_space::one_space_end;
 
@@ -131,13 +133,18 @@ pub fn tag_attributes<'input>(
     text: &'input str,
     start: usize,
     elements: &mut ElementTables<'input>,
-    tag: TagScope,
+    tag: TagScope<'_, '_, 'input>,
     seen: &mut SeenNames,
 ) -> Option<TagEnd>
-    requires { MayReadAttributes text.now start elements.old tag }
-    ensures { ReadsAttributes elements.old elements.new tag text.entry.now start result }
+    requires { MayReadAttributes text.now start elements.old tag.declares tag.scope }
+    ensures { ReadsAttributes (AreMainValues tag.entry.context.now) elements.old elements.new
+        tag.entry.declares tag.entry.scope text.entry.now start result }
 {
     seen.begin(elements.attributes.len());
+    let within = TagContext {
+        scope: tag.scope,
+        context: tag.context,
+    };
     let mut at = start;
     while at + 1 < text.len() {
         let next = next_item(text, at);
@@ -145,9 +152,9 @@ pub fn tag_attributes<'input>(
             return attributes_end(text, next.at, elements);
         }
         if declares_at(text, next.at, tag) {
-            at = put_declaration(text, next.at, elements, seen)?;
+            at = put_declaration(text, next.at, elements, tag.context, seen)?;
         } else {
-            at = put_attribute(text, next.at, elements, tag.scope, seen)?;
+            at = put_attribute(text, next.at, elements, &within, seen)?;
         }
     }
     None
@@ -414,18 +421,19 @@ pub fn start_tag<'input>(
     start: usize,
     head: TagHead<'input>,
     elements: &mut ElementTables<'input>,
+    context: &Context<'_, 'input>,
     seen: &mut SeenNames,
 ) -> Option<PlainTag<'input>>
     requires here { slice_index text.now start ≡ 60 }
-    requires attributes { MayReadAttributes text.now head.end elements.old
-        (record { scope = head.scope; declares = false }) }
+    requires attributes { MayReadAttributes text.now head.end elements.old false head.scope }
     ensures { (above : ℕ) → HasHead elements.old above text.entry.now start head.entry
-        → ReadsTag elements.old elements.new above text.entry.now start result }
+        → ReadsTag (AreMainValues context.entry.now) elements.old elements.new above text.entry.now start result }
 {
     let from = elements.attributes.len();
     let scope = TagScope {
         scope: head.scope,
         declares: false,
+        context,
     };
     let close = tag_attributes(text, head.end, elements, scope, seen)?;
     let NameAt { name, end } = head.name;

@@ -1,11 +1,11 @@
 //! The start tag of a root element by the fast path, with its declarations, read into the tables of its elements.
 
-ghost use Rattle.std.specs.Prelude.{◌≡◌, IfOk, OnOk, length, slice_index, take, true, ◌<◌, ◌^◌, IsCharBoundary};
+ghost use Rattle.std.specs.Prelude.{◌≡◌, [], IfOk, OnOk, length, slice_index, take, true, ◌<◌, ◌^◌, IsCharBoundary};
 ghost use Rattle.rox_rows.specs.Rows.{attribute_rows};
 ghost use Rattle.rox_names.specs.declared.tables.ElementTables.{ElementTables};
 ghost use Rattle.rox_tags.specs.RootTag.{BeginsOwn, BeginsScopes, GivesRootTag, IsBlank, ReadsRootTag, TakesBack};
-ghost use Rattle.rox_tags.specs.DeferredNames.{of_root};
 ghost use Rattle.rox_tags.specs.TagAttributes.{BeginsRoot, MayReadAttributes, ReadsAttributes};
+ghost use Rattle.rox_values.specs.DeclaredEntities.{AreMainValues};
 
 use crate::deferred_names::deferred_attributes;
 use crate::own_declaration::{OWN, TagScope};
@@ -19,14 +19,9 @@ use rox_scopes::bindings::PrefixBindings;
 use rox_scopes::namespace_table::NamespaceTable;
 use rox_scopes::stored_scope::{Scope, Stretch};
 use rox_starts::tag::element_of;
+use rox_values::context::Context;
 use rox_verbatim::quick_name::NamePlace;
 use std::alloc::AllocError;
-
-/// The scope of the tag of a root element.
-const SCOPE: TagScope = TagScope {
-    scope: OWN,
-    declares: true,
-};
 
 /// Appends the scope of a root element, which lists nothing yet, after that of the root node.
 #[inline(always)]
@@ -69,43 +64,42 @@ fn take_back(elements: &mut ElementTables<'_>, attributes: usize) -> Result<(), 
     begin_scopes(elements)
 }
 
-/// Takes back what the tag of a root element has put into the tables, which had `attributes` attributes before it.
+/// Takes back what the tag of a root element has put into the tables, which had no attributes before it. They list the scope of
+/// the element again, with nothing declared.
 #[cold]
 #[inline(never)]
-fn begin_again(elements: &mut ElementTables<'_>, attributes: usize) -> Result<(), AllocError>
+fn begin_again(elements: &mut ElementTables<'_>) -> Result<(), AllocError>
     ensures begun { OnOk result (BeginsRoot elements.new) }
-    ensures rows { attribute_rows elements.new.attributes
-        ≡ take attributes (attribute_rows elements.old.attributes) }
+    ensures rows { attribute_rows elements.new.attributes ≡ [] }
 {
-    take_back(elements, attributes)?;
+    take_back(elements, 0)?;
     push(
         &mut elements.scopes,
         Scope::Few(Stretch { from: 0, until: 0 }),
     )
 }
 
-/// Like `root_attributes`, for a tag that `tag_attributes` did not read. The table had `from` attributes before it.
+/// Like `root_attributes`, for a tag that `tag_attributes` did not read. The table had no attributes before it.
 #[cold]
 #[inline(never)]
 fn attributes_again<'input>(
     text: &'input str,
     start: usize,
     elements: &mut ElementTables<'input>,
-    from: usize,
+    context: &Context<'_, 'input>,
     buffers: &mut Buffers<'input>,
 ) -> Option<TagEnd>
     requires cut { IsCharBoundary text.now start }
     requires short { length text.now < 2 ^ 32 }
     ensures { (t : ElementTables) → BeginsRoot t
-        → attribute_rows t.attributes ≡ take from (attribute_rows elements.old.attributes)
-        → ReadsAttributes t elements.new of_root text.entry.now start result }
+        → attribute_rows t.attributes ≡ []
+        → ReadsAttributes (AreMainValues context.entry.now) t elements.new true 1 text.entry.now start result }
 {
-    if begin_again(elements, from).is_err() {
+    if begin_again(elements).is_err() {
         buffers.seen.lacking = true;
         return None;
     }
-    let (seen, taken) = (&mut buffers.seen, &mut buffers.taken);
-    deferred_attributes(text, start, elements, seen, taken)
+    deferred_attributes(text, start, elements, context, buffers)
 }
 
 /// Reads the attributes and declarations of the tag of a root element from `start` up to its end, if they are plain. If a prefix is
@@ -115,20 +109,27 @@ fn root_attributes<'input>(
     text: &'input str,
     start: usize,
     elements: &mut ElementTables<'input>,
+    context: &Context<'_, 'input>,
     buffers: &mut Buffers<'input>,
 ) -> Option<TagEnd>
-    requires { MayReadAttributes text.now start elements.old of_root }
-    ensures { ReadsAttributes elements.old elements.new of_root text.entry.now start result }
+    requires { MayReadAttributes text.now start elements.old true 1 }
+    ensures { ReadsAttributes (AreMainValues context.entry.now) elements.old elements.new true 1 text.entry.now start
+        result }
 {
     let from = elements.attributes.len();
-    if let Some(end) = tag_attributes(text, start, elements, SCOPE, &mut buffers.seen) {
+    let scope = TagScope {
+        scope: OWN,
+        declares: true,
+        context,
+    };
+    if let Some(end) = tag_attributes(text, start, elements, scope, &mut buffers.seen) {
         return Some(end);
     }
     // Memory that was refused is not asked for again.
-    if buffers.seen.lacking {
+    if buffers.seen.lacking || from != 0 {
         return None;
     }
-    attributes_again(text, start, elements, from, buffers)
+    attributes_again(text, start, elements, context, buffers)
 }
 
 /// Reads a start tag, from its `<`, of a child of the root node, if it is plain. It is in line, as its result would be moved
@@ -138,18 +139,19 @@ fn root_tag<'input>(
     text: &'input str,
     start: usize,
     elements: &mut ElementTables<'input>,
+    context: &Context<'_, 'input>,
     buffers: &mut Buffers<'input>,
 ) -> Option<PlainTag<'input>>
     requires here { slice_index text.now start ≡ 60 }
     requires short { length text.now < 2 ^ 32 }
     requires begins { BeginsRoot elements.old }
-    ensures { ReadsRootTag elements.old elements.new text.entry.now start result }
+    ensures { ReadsRootTag (AreMainValues context.entry.now) elements.old elements.new text.entry.now start result }
 {
     let name_start = after_byte(text, start, b'<');
     let part = part_end(text, name_start);
     let name = tag_name(text, NamePlace { start, part })?;
     let from = elements.attributes.len();
-    let end = root_attributes(text, name.end, elements, buffers)?;
+    let end = root_attributes(text, name.end, elements, context, buffers)?;
     let namespace = namespace_in_scope(elements, name.name, OWN)?;
     let element = element_of(elements, name.name.local, from, OWN, namespace);
     let tag = StartTag {
@@ -186,18 +188,19 @@ pub fn first_tag<'input>(
     text: &'input str,
     start: usize,
     elements: &mut ElementTables<'input>,
+    context: &Context<'_, 'input>,
     buffers: &mut Buffers<'input>,
 ) -> Result<Option<PlainTag<'input>>, AllocError>
     requires { slice_index text.now start ≡ 60 }
     ensures { IfOk result
-        (λ r. GivesRootTag elements.old elements.new text.entry.now start r) }
+        (λ r. GivesRootTag (AreMainValues context.entry.now) elements.old elements.new text.entry.now start r) }
 {
     if !is_blank(elements) || text.len() > u32::MAX as usize {
         return Ok(None);
     }
     let attributes = elements.attributes.len();
     begin_root(elements)?;
-    if let Some(read) = root_tag(text, start, elements, buffers) {
+    if let Some(read) = root_tag(text, start, elements, context, buffers) {
         return Ok(Some(read));
     }
     // Memory that was refused is not asked for again.

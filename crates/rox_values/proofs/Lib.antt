@@ -9,6 +9,7 @@ pub mod PlainTexts
 pub mod ValueOpening
 pub mod SectionLemmas
 pub mod Lifting
+pub mod MainValues
 pub mod BitLemmas
 pub mod SpacedLemmas
 pub mod StopLemmas

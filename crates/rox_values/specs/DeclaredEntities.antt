@@ -1,5 +1,5 @@
 -- The entities that the code holds, and how it reads a text, compared with how a text is read.
-use Rattle.std.specs.Prelude.{◌≡◌, ℕ, zero, suc, Bool, List, Option, Result, Ok, Err, option_map}
+use Rattle.std.specs.Prelude.{◌≡◌, ℕ, zero, suc, Bool, true, List, Option, Result, Ok, Err, option_map}
 use Rattle.std.specs.BTreeMap.{get_by}
 use Rattle.rox_grammar.specs.declared.fault.Fault.{Fault}
 use Rattle.rox_grammar.specs.declared.fault.Fault.TheVariants as fault
@@ -22,6 +22,13 @@ pub record AreDeclared (es : List Entity) (e : Entities) : Type 0 where
 -- How values are read, if the entities `es` are declared.
 abbrev pub values_in : List Entity → Context → Values
 values_in es context = values_of es context.depth_left context.main
+
+-- Values are read as in the context `x`, if its text is the main text.
+pub record AreMainValues (x : Context) (values : Values) : Type 0 where
+  pub entities : List Entity
+  pub declared : AreDeclared entities x.entities.now
+  pub main : x.main ≡ true
+  pub are : values ≡ values_in entities x
 
 -- How many replacement texts may be opened inside the one whose reference ends at `after`. At most `depth_left` may be open
 -- inside one another.

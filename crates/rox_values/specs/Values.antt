@@ -7,6 +7,7 @@ use Rattle.rox_grammar.specs.Content.{literals, line_ends}
 use Rattle.rox_grammar.specs.References.{is_digit, is_hex_digit}
 use Rattle.rox_reading.specs.Lexical.{Read, ◌>>=◌}
 use Rattle.rox_reading.specs.Refusals.{Refusal}
+use Rattle.rox_reading.specs.Tags.{Values}
 use Rattle.rox_reading.specs.Values as reading
 use Rattle.rox_bytes.specs.ByteSets.{EndsSet, is_run_byte}
 use Rattle.rox_grammar.specs.Failures.{Fails}
@@ -181,6 +182,11 @@ pub record AppendsPartFrom (entities : Entities) (old new : List ℕ) (before af
 abbrev pub AppendsValue : List ℕ → List ℕ → Result ℕ ParseError → Result (List ℕ × ℕ) Refusal → Type 0
 AppendsValue old new (Ok openings_left) read = text_behind old read ≡ Ok (new, openings_left)
 AppendsValue old new (Err e) read = IsRefusal e read
+
+-- What the value from `i` up to `stop` gives was appended. It neither uses nor changes how many replacement texts may be opened.
+abbrev pub PutsRest : Values → List ℕ → (i stop : ℕ) → (old new : List ℕ) → Type 0
+PutsRest values src i stop old new = (bits : ℕ) → stop - i ≤ bits → (openings_left : ℕ)
+    → text_behind old (reading.value_text values.main values.entities values.opener bits src stop i openings_left) ≡ Ok (new, openings_left)
 
 -- A value was read.
 abbrev pub GivesValue : {A : Type 0} → (A → reading.ReadText) → Result (A × ℕ) ParseError → Result (reading.ReadText × ℕ) Refusal → Type 0

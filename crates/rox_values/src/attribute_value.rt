@@ -79,7 +79,7 @@ fn other_bit<'input>(
 /// Appends the value of the text from the cursor up to `stop`. `openings_left` replacement texts may be opened in it. Returns how
 /// many may be opened after it.
 #[cycle(values)]
-fn value_text<'input>(
+pub(crate) fn value_text<'input>(
     from: Cursor<'input>,
     stop: usize,
     context: Context<'_, 'input>,

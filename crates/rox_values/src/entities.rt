@@ -95,6 +95,12 @@ impl<'input> Entities<'input> {
         }
     }
 
+    /// Returns the allocator of their tables.
+    #[inline(always)]
+    pub fn allocator(&self) -> Global {
+        *self.listed.allocator()
+    }
+
     /// Returns the replacement text of a name with the code `code`, if it is among the last `FEW` of its row.
     #[inline(always)]
     fn near(&self, code: u64, name: &str) -> Option<Cursor<'input>>

@@ -2,6 +2,7 @@
 #![tactic(auto)]
 
 pub mod attribute_value;
+pub mod changed_value;
 pub mod character_data;
 pub mod context;
 pub mod entities;

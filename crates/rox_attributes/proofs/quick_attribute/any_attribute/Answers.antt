@@ -12,20 +12,23 @@ returns c =
     let quoted = c.quote_before-quote.ensures in
     let n = c.in_ok-name.ensures.name in
     let j = c.in_ok-read.read.end in
-    let w = c.in_ok-read.ensures in
+    let w = c.in_ok-read.ensures.value in
     let start = v.start in
     let done = c.after_byte.ensures.place in
     let order1 = n.onward in
     let order2 = v.onward in
     let order3 = w.onward in
     record {
-      value_end = j;
-      read = attribute_reads src c.args.place.start (name_view c.in_ok-name.name.name) c.in_ok-name.name.end s q j c.after_byte.result n.value v quoted.here quoted.quote quoted.some w.read w.here done;
-      start = refl;
-      end = done;
-      value = w.value;
-      cut = c.after_byte.ensures.cut;
-      onward = omega arith;
-      local = n.local;
-      gap = omega arith;
+      read = record {
+        value_end = j;
+        read = attribute_reads src c.args.place.start (name_view c.in_ok-name.name.name) c.in_ok-name.name.end s q j c.after_byte.result n.value v quoted.here quoted.quote quoted.some w.read w.here done;
+        start = refl;
+        end = done;
+        value = w.value;
+        cut = c.after_byte.ensures.cut;
+        onward = omega arith;
+        local = n.local;
+        gap = omega arith;
+      };
+      kept = c.in_ok-read.ensures.kept;
     }

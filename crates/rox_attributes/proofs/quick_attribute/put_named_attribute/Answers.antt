@@ -1,4 +1,4 @@
-use Rattle.std.proofs.Common.{true, ◌≡◌, ◌-◌, ◌+◌, length, map, slice_index, refl, sym, ap, subst, ◌∙◌, arith}
+use Rattle.std.proofs.Common.{◌≡◌, ◌-◌, ◌+◌, length, map, slice_index, refl, sym, ap, subst, ◌∙◌, arith}
 use Rattle.std.proofs.lemmas.List.{length-map}
 use Rattle.rox_grammar.specs.Failures.{name_view}
 use Rattle.rox_grammar.proofs.Stretches.{range_length}
@@ -9,6 +9,7 @@ use Rattle.rox_rows.specs.declared.row.AttributePlaces.{AttributePlaces}
 use Rattle.rox_names.specs.declared.unresolved_attribute.UnresolvedAttribute.{UnresolvedAttribute}
 use Rattle.rox_names.specs.declared.unresolved_attribute.CompactAttribute.{CompactAttribute}
 use Rattle.rox_names.proofs.NameTests.{adds_compact}
+use Rattle.rox_values.specs.DeclaredEntities.{AreMainValues}
 use Rattle.rox_verbatim.specs.PlainValues.{IsValueStart}
 use Rattle.rox_attributes.specs.PlainAttribute.{few_in, IsPlainAttribute}
 use Rattle.rox_verbatim.proofs.Verbatim.{attribute_reads, value_is, value_starts}
@@ -57,12 +58,12 @@ returns c =
       compact = omega arith;
       ends = omega (arith, long, size);
     } in
-    let plain : IsPlainAttribute src i one = record {
+    let plain : IsPlainAttribute (AreMainValues c.args.within.now.context.now) src i one = record {
       value_end = j;
       read = attribute_reads src i (name_view name) n s q j e c.requires.named.value v here is_quote (not_zero q is_quote) (rw there at w.read) (w.here ∙ there) done;
       start = refl;
       end = done;
-      value = λ es opener openings_left. rw w.is (value_is true es opener src s j openings_left w.verbatim);
+      value = λ values is openings_left. rw w.is (value_is values.main values.entities values.opener src s j openings_left w.verbatim);
       cut = c.after_byte.ensures.cut;
       onward = omega arith;
       local = local;
@@ -81,7 +82,7 @@ returns c =
           one = one;
           plain = plain;
           other = sym c.is_namespace_decl.ensures ∙ c.if-is_namespace_decl.false;
-          added = adds_compact namespaces (few_in t c.args.scope) t.present c.args.seen.now.from (attribute_rows t.attributes) _ one compact space
+          added = adds_compact namespaces (few_in t c.args.within.now.scope) t.present c.args.seen.now.from (attribute_rows t.attributes) _ one compact space
               (ap (λ (p : AttributePlaces). (record { local = name.local; value = Borrowed value; namespace = space }, p)) (sym places))
               (put.added true).rows (subst (λ m. NamespaceWithin m space) (sym (length-map t.namespaces.items.items namespace_view)) found.within)
               (λ scope h. found.there scope h) (λ scope h. found.known scope h) (put.added true).first;

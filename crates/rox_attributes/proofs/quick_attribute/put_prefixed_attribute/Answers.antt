@@ -45,7 +45,7 @@ put_named_attribute-requires c =
     let some = some_filled c.in-Some-prefixed_name.name.name.prefix.now (omega (arith, onward, apart, size)) in
     record {
       put = first_of (search rules, grind (arith, common_steps));
-      found = c.in-Some.ensures (name_view c.in-Some-prefixed_name.name.name) (named.prefix ∙ sym c.range.ensures.value) some;
+      found = c.in-Some.ensures (name_view c.in-Some-prefixed_name.name.name) (named.prefix ∙ sym c.range-prefix.ensures.value) some;
       named = named.named;
       local = omega (arith, onward, named.local);
       value = first_of (search rules, grind (arith, common_steps));

@@ -19,7 +19,7 @@ returns-then-is_at_root c = record {
       let src = c.args.cursor.now.text.now in
       let context = context_of limit es c.args.context in
       let g0 = c.loop-turn.invariant.reads limit end es s declared sees in
-      let read = rw (ap (λ t. t.now) c.loop-turn.invariant.source) at (c.quick_constructs-read.ensures.value context end g0.s refl refl g0.sees) in
+      let read = rw (ap (λ t. t.now) c.loop-turn.invariant.source) at (c.quick_constructs-read.ensures.value context end g0.s (record { limit = limit; entities = es; declared = declared; is = refl }) g0.sees) in
       let g = drives_past context end src _ c.loop-turn._turn read.0 _ _ _ _ g0 c.args.cursor.now.utf8 read.1 in
       drive_done context end src _ _ _ _ g (sym (c.is_at_root.ensures end g.s.stack g.s.done g.sees.shows) ∙ c.if-is_at_root.true);
   goes = search rules;
@@ -33,7 +33,7 @@ returns-then-is_at_end c = record {
       let s0 = ap (λ t. t.now) c.loop-turn.invariant.source in
       let s1 = ap (λ t. t.now) c.quick_constructs-read.ensures.goes.source ∙ s0 in
       let g0 = c.loop-turn.invariant.reads limit end es s declared sees in
-      let read = rw s0 at (c.quick_constructs-read.ensures.value context end g0.s refl refl g0.sees) in
+      let read = rw s0 at (c.quick_constructs-read.ensures.value context end g0.s (record { limit = limit; entities = es; declared = declared; is = refl }) g0.sees) in
       let g = drives_past context end src _ c.loop-turn._turn read.0 _ _ _ _ g0 c.args.cursor.now.utf8 read.1 in
       let inner : is_root g.s.stack ≡ false = sym (c.is_at_root.ensures end g.s.stack g.s.done g.sees.shows) ∙ c.if-is_at_root.false in
       let past : length src ≤ g.s.at = rw (s1, g.sees.here) at (leb-true _ _ (sym c.is_at_end.ensures ∙ c.if-is_at_end.true)) in
@@ -49,7 +49,7 @@ loop-turn-preserved-then-rows_left-lt2 c = record {
       let moved : c.loop-turn.cursor.pos < c.quick_constructs-read.new.cursor.pos = search rules in
       let context = context_of limit es c.args.context in
       let g0 = c.loop-turn.invariant.reads limit end es s declared sees in
-      let read = rw (ap (λ t. t.now) c.loop-turn.invariant.source) at (c.quick_constructs-read.ensures.value context end g0.s refl refl g0.sees) in
+      let read = rw (ap (λ t. t.now) c.loop-turn.invariant.source) at (c.quick_constructs-read.ensures.value context end g0.s (record { limit = limit; entities = es; declared = declared; is = refl }) g0.sees) in
       let g = drives_past context end c.args.cursor.now.text.now _ c.loop-turn._turn read.0 _ _ _ _ g0 c.args.cursor.now.utf8 read.1 in
       record {
         s = g.s;
@@ -72,7 +72,7 @@ loop-turn-preserved c = record {
       let s1 = ap (λ t. t.now) c.quick_constructs-read.ensures.goes.source ∙ s0 in
       let s2 = ap (λ t. t.now) c.in_ok-joined.ensures.goes.source ∙ s1 in
       let g0 = c.loop-turn.invariant.reads limit end es s declared sees in
-      let read = rw s0 at (c.quick_constructs-read.ensures.value context end g0.s refl refl g0.sees) in
+      let read = rw s0 at (c.quick_constructs-read.ensures.value context end g0.s (record { limit = limit; entities = es; declared = declared; is = refl }) g0.sees) in
       let g = drives_past context end src _ c.loop-turn._turn read.0 _ _ _ _ g0 c.args.cursor.now.utf8 read.1 in
       let still = (let o = c.in_ok-joined.ensures.other c.if-joined.false in state_kept limit end g.s _ _ _ _ g.sees o.0 o.1) in
       let inner : is_root g.s.stack ≡ false = sym (c.is_at_root.ensures end g.s.stack g.s.done g.sees.shows) ∙ c.if-is_at_root.false in
@@ -92,7 +92,7 @@ loop-turn-preserved-then-joined c = record {
       let s0 = ap (λ t. t.now) c.loop-turn.invariant.source in
       let s1 = ap (λ t. t.now) c.quick_constructs-read.ensures.goes.source ∙ s0 in
       let g0 = c.loop-turn.invariant.reads limit end es s declared sees in
-      let read = rw s0 at (c.quick_constructs-read.ensures.value context end g0.s refl refl g0.sees) in
+      let read = rw s0 at (c.quick_constructs-read.ensures.value context end g0.s (record { limit = limit; entities = es; declared = declared; is = refl }) g0.sees) in
       let g = drives_past context end src _ c.loop-turn._turn read.0 _ _ _ _ g0 c.args.cursor.now.utf8 read.1 in
       let inner : is_root g.s.stack ≡ false = sym (c.is_at_root.ensures end g.s.stack g.s.done g.sees.shows) ∙ c.if-is_at_root.false in
       let more = subst (λ (x : List ℕ). (n : ℕ) × Reads context end n c.join_section.new.cursor c.join_section.new.builder x g.s) s1 (c.in_ok-joined.ensures.value c.if-joined.true context end g.s inner g.sees) in
@@ -114,7 +114,7 @@ returns-in_err-step c = record {
       let s1 = ap (λ t. t.now) c.quick_constructs-read.ensures.goes.source ∙ s0 in
       let s2 = ap (λ t. t.now) c.in_ok-joined.ensures.goes.source ∙ s1 in
       let g0 = c.loop-turn.invariant.reads limit end es s declared sees in
-      let read = rw s0 at (c.quick_constructs-read.ensures.value context end g0.s refl refl g0.sees) in
+      let read = rw s0 at (c.quick_constructs-read.ensures.value context end g0.s (record { limit = limit; entities = es; declared = declared; is = refl }) g0.sees) in
       let g = drives_past context end src _ c.loop-turn._turn read.0 _ _ _ _ g0 c.args.cursor.now.utf8 read.1 in
       let still = (let o = c.in_ok-joined.ensures.other c.if-joined.false in state_kept limit end g.s _ _ _ _ g.sees o.0 o.1) in
       let inner : is_root g.s.stack ≡ false = sym (c.is_at_root.ensures end g.s.stack g.s.done g.sees.shows) ∙ c.if-is_at_root.false in

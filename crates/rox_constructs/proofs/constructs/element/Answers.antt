@@ -13,7 +13,7 @@ use Rattle.rox_builder.specs.declared.builder.Builder.{Builder}
 use Rattle.rox_builder.specs.BuilderState.{GoesOn, IsNode, IsConsistent}
 use Rattle.rox_names.specs.OpenElements.{IsOpened}
 use Rattle.rox_names.specs.declared.open_element.OpenElement.{OpenElement}
-use Rattle.rox_names.proofs.SameNames.{opened_named}
+use Rattle.rox_names.proofs.SameNames.{opened_named, tag_named}
 use Rattle.rox_names.proofs.SpelledNames.{tag_is_named}
 use Rattle.rox_names.specs.SpelledNames.{SpellsName}
 use Rattle.rox_rows.specs.declared.row.NodeKind.TheVariants as kind
@@ -96,7 +96,7 @@ returns c = record {
       goes_too _ c.open_element.result _ c.parsed-2.ensures (on_ok_weaker c.open_element.result (went cursor c.start_tag.new.cursor c.open_element.new.self c.start_tag.ensures.source)
       (fine_more c.open_element.result c.start_tag.new.elements b.opened.items c.open_element.new.self src t
       (fine_by b.tables c.start_tag.new.elements t _ v.0 b.opened.items v.2 c.requires.fine) c.open_element.ensures.kept.tables opens v.2.element.scope_within v.2.once (namespace_by b.tables c.start_tag.new.elements t _ v.0 v.2)
-      (λ o by. opened_named _ _ _ _ _ src cursor.pos _ _ _ t o cursor.utf8 c.requires.here v.1 v.2.name v.2.name_end c.in_ok-tag.ensures.starts by)));
+      (λ o by. opened_named src cursor.pos _ _ t o cursor.utf8 c.requires.here (tag_named _ _ _ _ _ src cursor.pos _ _ _ v.1) v.2.name v.2.name_end c.in_ok-tag.ensures.starts by)));
 }
 
 pub open_element-requires : goal.open_element-requires
@@ -104,5 +104,5 @@ open_element-requires c =
     let d = some_declare c.args.context.entities.now in
     let v = c.in_ok-tag.ensures.value d.0 d.1 in
     let cursor = c.args.cursor.now in
-    let named = tag_is_named _ _ _ _ _ cursor.text.now cursor.pos _ _ _ c.in_ok-tag.tag cursor.utf8 c.requires.here v.1 v.2.name v.2.name_end c.in_ok-tag.ensures.starts in
+    let named = tag_is_named cursor.text.now cursor.pos _ _ c.in_ok-tag.tag cursor.utf8 c.requires.here (tag_named _ _ _ _ _ cursor.text.now cursor.pos _ _ _ v.1) v.2.name v.2.name_end c.in_ok-tag.ensures.starts in
     subst (λ (text : List ℕ). SpellsName text c.in_ok-tag.tag) (sym (ap (λ x. x.now) c.start_tag.ensures.source)) named

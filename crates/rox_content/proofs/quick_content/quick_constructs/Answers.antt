@@ -4,26 +4,27 @@ use Rattle.rox_scan.specs.declared.cursor.Cursor.{Cursor}
 use Rattle.rox_builder.specs.BuilderState.{GoesOn, IsReadyTo}
 use Rattle.rox_builder.proofs.Stepping.{step_is_run, state_kept}
 use Rattle.rox_sections.proofs.Twice.{Between, ready_within, reads_none, reads_run, reads_markup, reads_kept}
+use Rattle.rox_content.proofs.PlainElements.{main_context, main_text}
 use Rattle.rox_content.proofs.quick_content.quick_constructs.Goals as goal
 use Rattle.rox_content.proofs.quick_content.quick_constructs.Goals.{else-loop-builder-test, then-loop-builder-test+then-is_at_root, then-loop-builder-test+else-is_at_root+then-here-bytes, then-loop-builder-test+else-is_at_root+else-here-bytes+then-bytes-here-ne60+then-not-put_character_data, then-loop-builder-test+else-is_at_root+else-here-bytes+then-not-quick_markup, then-bytes-here-ne60+else-not-put_character_data, else-bytes-here-ne60}
 
 pub returns-then-cursor-gt-MOST_BYTES : goal.returns-then-cursor-gt-MOST_BYTES
 returns-then-cursor-gt-MOST_BYTES c = record {
-  value = λ context end s around main h. (0, reads_none context end c.args.cursor.now.text.now s c.args.cursor.now c.args.builder.now h);
+  value = λ context end s like h. (0, reads_none context end c.args.cursor.now.text.now s c.args.cursor.now c.args.builder.now h);
   moves = λ yes. absurd (cc yes);
   goes = record { source = refl; fine = c.requires.fine };
 }
 
-pub returns-then-not-main : goal.returns-then-not-main
-returns-then-not-main c = record {
-  value = λ context end s around main h. (0, reads_none context end c.args.cursor.now.text.now s c.args.cursor.now c.args.builder.now h);
+pub returns-then-not-context : goal.returns-then-not-context
+returns-then-not-context c = record {
+  value = λ context end s like h. (0, reads_none context end c.args.cursor.now.text.now s c.args.cursor.now c.args.builder.now h);
   moves = λ yes. absurd (cc yes);
   goes = record { source = refl; fine = c.requires.fine };
 }
 
 pub returns-then-not-stands_apart : goal.returns-then-not-stands_apart
 returns-then-not-stands_apart c = record {
-  value = λ context end s around main h. (0, reads_none context end c.args.cursor.now.text.now s c.args.cursor.now c.args.builder.now h);
+  value = λ context end s like h. (0, reads_none context end c.args.cursor.now.text.now s c.args.cursor.now c.args.builder.now h);
   moves = λ yes. absurd (cc yes);
   goes = record { source = refl; fine = c.requires.fine };
 }
@@ -34,7 +35,7 @@ loop-builder-init c = record {
   fine = c.requires.fine;
   ready = λ some. subst (λ (n : ℕ). IsReadyTo (n + c.args.rows) c.args.builder.now) (sym c.len.ensures.rows) (c.requires.ready (omega (arith, some, c.len.ensures.rows)));
   apart = c.stands_apart.ensures c.if-not-stands_apart.false;
-  reads = λ context end s around main h. (0, reads_none context end c.args.cursor.now.text.now s c.args.cursor.now c.args.builder.now h);
+  reads = λ context end s like h. (0, reads_none context end c.args.cursor.now.text.now s c.args.cursor.now c.args.builder.now h);
 }
 
 pub put_character_data-requires : goal.put_character_data-requires
@@ -90,8 +91,8 @@ loop-builder-preserved c =
       fine = c.quick_markup.ensures.reads.goes.fine;
       ready = λ _. c.quick_markup.ensures.ready c.if-not-quick_markup.false most ready;
       apart = c.quick_markup.ensures.apart c.if-not-quick_markup.false;
-      reads = λ context end s around main h.
-          let read = c.loop-builder.invariant.reads context end s around main h in
+      reads = λ context end s like h.
+          let read = c.loop-builder.invariant.reads context end s like h in
           let g = read.1 in
           let inner : is_root g.behind.stack ≡ false = sym (c.is_at_root.ensures end g.behind.stack g.behind.done g.sees.shows) ∙ c.if-is_at_root.false in
           let within : g.behind.at < length src = omega (arith, c.if-here-bytes.false, (ap length (c.as_bytes-bytes.ensures.value ∙ s0)), g.sees.here) in
@@ -101,23 +102,23 @@ loop-builder-preserved c =
                 rw (w.here-is, w.builder-is) (
                   read.0 + 1,
                   reads_run context end read.0 src s c.loop-builder.here w.put_character_data.new.cursor c.loop-builder.builder w.put_character_data.new.builder (g, inner, within) w.put_character_data.ensures.opened
-                      (rw (step_is_run context src _ g.behind c.loop-builder.here.pos (c.as_bytes-bytes.ensures.value ∙ s0) g.sees.here w.if-bytes-here-ne60.true) (rw s0 at (w.put_character_data.ensures.value yes context end g.behind (main ∙ c.if-not-main.false) g.sees)))
+                      (rw (step_is_run context src _ g.behind c.loop-builder.here.pos (c.as_bytes-bytes.ensures.value ∙ s0) g.sees.here w.if-bytes-here-ne60.true) (rw s0 at (w.put_character_data.ensures.value yes context end g.behind (main_text _ context like c.if-not-context.false) g.sees)))
                       (rw s0 at (w.put_character_data.ensures.behind yes)),
                 ))
             | else-bytes-here-ne60 w ↦ rw (w.here-is, w.builder-is) (read.0, (g, inner, within))
           ] in (
             between.0 + 1,
             reads_markup context end between.0 src s c.if-bytes-here-ne60.here c.quick_markup.new.cursor c.if-bytes-here-ne60.builder c.quick_markup.new.builder between.1
-                (λ t sees. rw (ap (λ t. t.now) source) at (c.quick_markup.ensures.reads.value c.if-not-quick_markup.false context end t (around, main ∙ c.if-not-main.false) sees)),
+                (λ t sees. rw (ap (λ t. t.now) source) at (c.quick_markup.ensures.reads.value c.if-not-quick_markup.false context end t (main_context _ context like c.if-not-context.false) sees)),
           );
     }
 
 pub returns : goal.returns
 returns c = record {
-  value = λ context end s around main h.
+  value = λ context end s like h.
       let src = c.args.cursor.now.text.now in
       let s0 = ap (λ t. t.now) c.loop-builder.invariant.source in
-      let read = c.loop-builder.invariant.reads context end s around main h in
+      let read = c.loop-builder.invariant.reads context end s like h in
       let g = read.1 in
       elim c.loop-builder-test.branch [
         | else-loop-builder-test w ↦ rw (w.here-is, w.builder-is) read
@@ -140,7 +141,7 @@ returns c = record {
                   rw (v.here-is, v.builder-is) (
                     read.0 + 1,
                     reads_run context end read.0 src s c.loop-builder.here v.put_character_data.new.cursor c.loop-builder.builder v.put_character_data.new.builder (g, inner, within) v.put_character_data.ensures.opened
-                        (rw (step_is_run context src _ g.behind c.loop-builder.here.pos (w.as_bytes-bytes.ensures.value ∙ s0) g.sees.here v.if-bytes-here-ne60.true) (rw s0 at (v.put_character_data.ensures.value yes context end g.behind (main ∙ c.if-not-main.false) g.sees)))
+                        (rw (step_is_run context src _ g.behind c.loop-builder.here.pos (w.as_bytes-bytes.ensures.value ∙ s0) g.sees.here v.if-bytes-here-ne60.true) (rw s0 at (v.put_character_data.ensures.value yes context end g.behind (main_text _ context like c.if-not-context.false) g.sees)))
                         (rw s0 at (v.put_character_data.ensures.behind yes)),
                   ))
               | else-bytes-here-ne60 v ↦ rw (v.here-is, v.builder-is) (read.0, (g, inner, within))

@@ -2,14 +2,15 @@ use Rattle.std.proofs.Common.{ℕ, List, ◌+◌, ◌<◌, ◌^◌, slice_index,
 use Rattle.rox_builder.specs.BuilderState.{IsInState, IsReady, IsReadyTo}
 use Rattle.rox_builder.proofs.Stepping.{step_is_markup}
 use Rattle.rox_sections.proofs.PlainReads.{keeps_same}
+use Rattle.rox_values.proofs.MainValues.{of_main}
 use Rattle.rox_content.proofs.quick_content.quick_markup.Goals as goal
 
 pub returns-then-next-eq47 : goal.returns-then-next-eq47
 returns-then-next-eq47 c = record {
   reads = record {
-    value = λ yes context end s around h.
+    value = λ yes context end s like h.
         rw (step_is_markup context c.args.cursor.now.text.now _ s c.args.cursor.now.pos 47 c.as_bytes-bytes.ensures.value h.here (ap (λ (xs : List ℕ). slice_index xs c.args.cursor.now.pos) c.as_bytes-bytes.ensures.value ∙ c.requires.here) c.if-cursor-bytes.false c.if-next-eq47.true (λ e. cc e))
-        (c.close_element.ensures.value yes context end s around.0 h);
+        (c.close_element.ensures.value yes context end s like.around h);
     other = λ no. let o = c.close_element.ensures.other no in (o.0, keeps_same _ _ o.1);
     goes = c.close_element.ensures.goes;
   };
@@ -21,7 +22,7 @@ returns-then-next-eq47 c = record {
 pub returns-then-next-le63 : goal.returns-then-next-le63
 returns-then-next-le63 c = record {
   reads = record {
-    value = λ _ context end s around h.
+    value = λ _ context end s like h.
         c.put_delimited-behind.ensures.value (omega (arith, c.if-behind-gt-MOST_BYTES.false)) context end s c.args.cursor.now _ refl refl h;
     other = λ no. absurd (cc no);
     goes = record { source = refl; fine = c.put_delimited-behind.ensures.fine };
@@ -37,11 +38,11 @@ returns-then-behind-gt-MOST_BYTES c = grind arith
 pub returns-then-element_of_name : goal.returns-then-element_of_name
 returns-then-element_of_name c = record {
   reads = record {
-    value = λ _ context end s around h.
+    value = λ _ context end s like h.
         let i = c.args.cursor.now.pos in
         let b = slice_index c.as_bytes-bytes.result.now (i + 1) in
         let is = step_is_markup context c.args.cursor.now.text.now _ s i b c.as_bytes-bytes.ensures.value h.here (ap (λ (xs : List ℕ). slice_index xs c.args.cursor.now.pos) c.as_bytes-bytes.ensures.value ∙ c.requires.here) c.if-cursor-bytes.false refl (λ e. absurd (omega (arith, c.if-next-le63.false, e))) in
-        rw (is, ne_eqb b 63 (λ e. absurd (omega (arith, c.if-next-le63.false, e))), ne_eqb b 47 (λ e. absurd (omega (arith, c.if-next-le63.false, e)))) (c.element_of_name.ensures.value c.if-element_of_name.true context end s around.1 h);
+        rw (is, ne_eqb b 63 (λ e. absurd (omega (arith, c.if-next-le63.false, e))), ne_eqb b 47 (λ e. absurd (omega (arith, c.if-next-le63.false, e)))) (c.element_of_name.ensures.value c.if-element_of_name.true context end s (of_main _ context.values like.values) h);
     other = λ no. absurd (cc no);
     goes = c.element_of_name.ensures.goes;
   };
@@ -57,13 +58,13 @@ returns c =
     let less : c.element-end.result < 2 ^ 32 = omega (arith, c.if-end-gt-MOST_BYTES.false) in
     record {
       reads = record {
-        value = λ _ context end s around h.
+        value = λ _ context end s like h.
             let i = c.args.cursor.now.pos in
             let b = slice_index c.as_bytes-bytes.result.now (i + 1) in
             let is = step_is_markup context c.args.cursor.now.text.now _ s i b c.as_bytes-bytes.ensures.value h.here (ap (λ (xs : List ℕ). slice_index xs c.args.cursor.now.pos) c.as_bytes-bytes.ensures.value ∙ c.requires.here) c.if-cursor-bytes.false refl (λ e. absurd (omega (arith, c.if-next-le63.false, e))) in
             let sees : IsInState context.limit end s c.args.cursor.now c.element_of_name.new.builder = rw same h in
             rw (is, ne_eqb b 63 (λ e. absurd (omega (arith, c.if-next-le63.false, e))), ne_eqb b 47 (λ e. absurd (omega (arith, c.if-next-le63.false, e))))
-            (read.value less context end s c.args.cursor.now _ around.1 refl refl sees);
+            (read.value less context end s c.args.cursor.now _ like.values refl refl sees);
         other = λ no. absurd (cc no);
         goes = record { source = c.element_of_name.ensures.goes.source; fine = read.fine };
       };

@@ -5,7 +5,7 @@ use Rattle.rox_sections.proofs.PlainReads.{reads_not}
 use Rattle.rox_content.proofs.quick_elements.element_of_head.Goals as goal
 use Rattle.rox_content.proofs.quick_elements.element_of_head.Goals.{After-start_tag}
 
-tried : (c : After-start_tag) → IsTried c.args.text.now c.args.start c.args.builder.now c.args.head c.start_tag.new.elements c.len-from.result c.start_tag.result
+tried : (c : After-start_tag) → IsTried c.args.context.now c.args.text.now c.args.start c.args.builder.now c.args.head c.start_tag.new.elements c.len-from.result c.start_tag.result
 tried c = record {
   utf8 = c.utf8.text;
   may = c.requires;

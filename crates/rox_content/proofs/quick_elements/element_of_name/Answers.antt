@@ -1,4 +1,4 @@
-use Rattle.std.proofs.Common.{Bool, true, [], Ok, arith, refl, sym, ap, subst, ◌∙◌, List}
+use Rattle.std.proofs.Common.{Bool, Ok, arith, refl, sym, ap, subst, ◌∙◌, List}
 use Rattle.rox_grammar.specs.Written.{NamespaceDecl}
 use Rattle.rox_grammar.specs.State.{scope_of}
 use Rattle.rox_grammar.specs.Faults.{cut_off}
@@ -9,11 +9,8 @@ use Rattle.rox_builder.specs.BuilderState.{opened_in}
 use Rattle.rox_content.proofs.Closing.{below_last}
 use Rattle.rox_builder.proofs.Showing.{innermost_row}
 use Rattle.rox_builder.proofs.Stepping.{top_scope}
-use Rattle.rox_grammar.specs.declared.fault.Fault.TheVariants as fault
-use Rattle.rox_reading.specs.Tags.{Values}
 use Rattle.rox_names.proofs.SameNames.{opened_named}
 use Rattle.rox_names.proofs.SpelledNames.{tag_is_named}
-use Rattle.rox_tags.proofs.WholeTags.{plain_moves}
 use Rattle.rox_constructs.proofs.Opening.{is_opening, fine_by, fine_more, namespace_by, tag_is, open_stepped}
 use Rattle.rox_content.proofs.quick_elements.element_of_name.Goals as goal
 
@@ -41,19 +38,18 @@ returns c = record {
       (open_stepped context.limit end s.openings_left s _ old old b.nodes_limit c.put_open.new.self (Ok tt) t (scope_of s.stack) x.tag tg h.namespaces h.attributes h.limit_is (c.put_open.ensures.adds.kept.openings_left ∙ h.openings_left_is) c.put_open.ensures.adds.kept.tables c.put_open.ensures.adds.kept.limit adds);
   other = λ no. absurd (cc no);
   ready = λ _. c.put_open.ensures.ready;
-  moves = λ _. plain_moves _ _ _ c.args.cursor.now.text.now c.args.cursor.now.pos _ _ c.args.cursor.now.utf8 c.in-Some-start_tag_of_name.ensures.read;
+  moves = λ _. c.in-Some-start_tag_of_name.ensures.read.onward;
   goes =
       let b = c.args.builder.now in
       let cursor = c.args.cursor.now in
       let src = cursor.text.now in
       let x = c.in-Some-start_tag_of_name.ensures.read in
       let t = c.in-Some-start_tag_of_name.bare.tag in
-      let context : Values = record { main = true; entities = []; opener = λ text i openings_left. Ok ([], openings_left) } in
       record {
         source = refl;
         fine = fine_more (Ok tt) b.tables b.opened.items c.put_open.new.self src t
             (fine_by b.tables b.tables t _ x.tag b.opened.items x.tagged c.requires.room.fine) c.put_open.ensures.adds.kept.tables c.put_open.ensures.adds.opened x.tagged.element.scope_within x.tagged.once (namespace_by b.tables b.tables t _ x.tag x.tagged)
-            (λ o by. opened_named context fault.NoRootNode _ _ _ src cursor.pos 0 _ _ t o cursor.utf8 c.requires.here (x.read context refl fault.NoRootNode 0) x.tagged.name x.tagged.name_end x.starts by);
+            (λ o by. opened_named src cursor.pos _ _ t o cursor.utf8 c.requires.here x.named x.tagged.name x.tagged.name_end x.starts by);
       };
 }
 
@@ -61,8 +57,7 @@ pub put_open-requires : goal.put_open-requires
 put_open-requires c =
     let x = c.in-Some-start_tag_of_name.ensures.read in
     let t = c.in-Some-start_tag_of_name.bare.tag in
-    let context : Values = record { main = true; entities = []; opener = λ text i openings_left. Ok ([], openings_left) } in
-    let named = tag_is_named context fault.NoRootNode _ _ _ c.args.cursor.now.text.now c.args.cursor.now.pos 0 _ _ t c.args.cursor.now.utf8 c.requires.here (x.read context refl fault.NoRootNode 0) x.tagged.name x.tagged.name_end x.starts in
+    let named = tag_is_named c.args.cursor.now.text.now c.args.cursor.now.pos _ _ t c.args.cursor.now.utf8 c.requires.here x.named x.tagged.name x.tagged.name_end x.starts in
     record {
       row =
           let split = c.in-Some.ensures.some in

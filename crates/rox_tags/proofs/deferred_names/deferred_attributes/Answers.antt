@@ -16,7 +16,7 @@ returns c =
     let old = c.args.elements.now in
     let e = c.in_ok-end.end in
     record {
-      read = deferred_plain old c.taken_end.new.elements c.put_taken.new.elements c.args.text.now c.args.start e.at e.empty c.taken_end.new.taken.items t.read t.kept c.put_taken.ensures.others (c.put_taken.ensures.resolves c.if-not-put_taken.false);
+      read = deferred_plain old c.taken_end.new.elements c.put_taken.new.elements c.args.text.now c.args.start e.at e.empty c.taken_end.new.buffers.taken.items t.read t.kept c.put_taken.ensures.others (c.put_taken.ensures.resolves c.if-not-put_taken.false);
       cut = t.cut;
       few = c.put_taken.ensures.few c.if-not-put_taken.false;
       grown = none_grown old c.put_taken.new.elements (omega (arith, c.len.ensures));

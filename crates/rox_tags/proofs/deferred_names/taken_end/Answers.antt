@@ -14,13 +14,14 @@ returns-then-not-next c =
     let near = c.next_item-next in
     let end = c.tag_end.ensures in
     record {
-      read = takes_ends c.args.elements.now l.elements c.args.text.now c.args.start l.at near.result.at c.tag_end.result l.taken.items l.invariant.holds near.ensures.end.onward near.ensures.end.place end;
+      read = takes_ends c.args.elements.now l.elements c.args.text.now c.args.start l.at near.result.at c.tag_end.result l.buffers.taken.items l.invariant.holds near.ensures.end.onward near.ensures.end.place end;
       cut = end.cut;
       kept = l.invariant.holds.kept;
     }
 
 pub loop-at-preserved-then-may_declare : goal.loop-at-preserved-then-may_declare
-loop-at-preserved-then-may_declare c = grind (arith, takes_declared)
+loop-at-preserved-then-may_declare c =
+    grind (arith, takes_declared)
 
 pub loop-at-preserved : goal.loop-at-preserved
 loop-at-preserved c = grind (arith, takes_more)

@@ -3,7 +3,7 @@ use Rattle.rox_tags.proofs.own_declaration.declared.Goals as goal
 
 pub returns-in-Ok-true : goal.returns-in-Ok-true
 returns-in-Ok-true c =
-    let read = c.in_ok-one.ensures in
+    let read = c.in_ok-one.ensures.read in
     record {
       others = search rules;
       lists = record {
@@ -13,5 +13,5 @@ returns-in-Ok-true c =
         end = refl;
         listed = grind arith;
       };
-      kept = record { codes = refl; from = refl };
+      kept = c.in_ok-one.ensures.kept;
     }

@@ -1,4 +1,4 @@
-use Rattle.std.proofs.Common.{◌≡◌, ◌-◌, ◌+◌, true, slice_index, refl, ap, ◌∙◌, arith}
+use Rattle.std.proofs.Common.{◌≡◌, ◌-◌, ◌+◌, slice_index, refl, ap, ◌∙◌, arith}
 use Rattle.rox_grammar.specs.Failures.{name_view}
 use Rattle.rox_verbatim.specs.PlainValues.{IsValueStart}
 use Rattle.rox_verbatim.proofs.Verbatim.{attribute_reads, value_is, value_starts}
@@ -29,7 +29,7 @@ returns c =
         read = attribute_reads src c.args.start (name_view c.in_ok-name.name.name) n s q j e found.named.value v here is_quote (not_zero q is_quote) w.read w.here done;
         start = refl;
         end = done;
-        value = λ es opener openings_left. rw w.is (value_is true es opener src s j openings_left w.verbatim);
+        value = λ values is openings_left. rw w.is (value_is values.main values.entities values.opener src s j openings_left w.verbatim);
         cut = c.after_byte-end.ensures.cut;
         onward = omega arith;
         local = local;

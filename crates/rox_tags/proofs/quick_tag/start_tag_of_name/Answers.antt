@@ -1,10 +1,11 @@
-use Rattle.std.proofs.Common.{◌≡◌, ◌+◌, [], map, refl, arith, slice_index}
+use Rattle.std.proofs.Common.{◌≡◌, ◌+◌, false, [], map, refl, arith, slice_index}
 use Rattle.rox_grammar.specs.Written.{Name}
 use Rattle.rox_bytes.proofs.NearLemmas.{part_cut}
 use Rattle.rox_scopes.specs.NamespaceViews.{namespace_view}
 use Rattle.rox_attributes.specs.PlainAttribute.{HasScope}
 use Rattle.rox_bytes.proofs.RunLemmas.{stands_within}
 use Rattle.rox_verbatim.proofs.Verbatim.{no_space}
+use Rattle.rox_tags.specs.TagAttributes.{AreOfMainText, ArePlainAttributes}
 use Rattle.rox_tags.proofs.TagAttributes.{holds_start, opens_there}
 use Rattle.rox_tags.proofs.WholeTags.{plain_tagged}
 use Rattle.rox_names.proofs.SpelledNames.{unprefixed_name}
@@ -25,9 +26,10 @@ returns c =
     let parent = c.requires.below.parent in
     let begins : HasScope t o.scope = record { places = c.requires.below.places; scopes = c.requires.below.scopes; within = parent.0; once = parent.1 } in
     let is = rw start at c.ascii_name-local.ensures in
+    let tagged : ArePlainAttributes AreOfMainText false o.scope t t src n c.after_byte-end.result false = rw c.after_byte-end.ensures.place (opens_there false o.scope t t src n n n (holds_start false o.scope t src n begins) (omega arith) spaces here) in
     let name : Name = record { prefix = []; local = c.ascii_name-local.result.now } in
     record {
-      read = plain_tagged t t o src i n c.after_byte-end.result _ c.len-from.result o.namespace c.requires.below (grind (arith, opens_there, holds_start))
+      read = plain_tagged {such = AreOfMainText} t t o src i n c.after_byte-end.result _ c.len-from.result o.namespace c.requires.below (λ values is. is) tagged
           is refl start refl c.element_of-element.ensures c.len-from.ensures c.requires.few_attributes
           (record { within = parent.3.within; is = (rw (unprefixed_name o parent.2 c.if-parent.false) at parent.3.is) }) refl c.after_byte-end.ensures.cut;
       opens = refl;

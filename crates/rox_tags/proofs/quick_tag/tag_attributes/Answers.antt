@@ -15,10 +15,10 @@ returns-then-not-next c =
     let near = c.next_item-next in
     let end = c.attributes_end.ensures in
     record {
-      read = ends_or_not c.args.tag old l.elements src c.args.start l.at near.result.at c.attributes_end.result l.invariant.holds near.ensures.end.onward near.ensures.end.place end.ends.opens end.ends.closes;
+      read = ends_or_not c.args.tag.declares c.args.tag.scope old l.elements src c.args.start l.at near.result.at c.attributes_end.result l.invariant.holds near.ensures.end.onward near.ensures.end.place end.ends.opens end.ends.closes;
       cut = end.ends.cut;
       few = end.few;
-      grown = holds_grown c.args.tag old l.elements src c.args.start l.at l.invariant.holds;
+      grown = holds_grown c.args.tag.declares c.args.tag.scope old l.elements src c.args.start l.at l.invariant.holds;
     }
 
 not_false : (b : Bool) → not b ≡ false → b ≡ true
@@ -37,13 +37,14 @@ put_attribute-requires c =
       holds = record {
         from = omega (arith, l.invariant.from, ap length g.so_far.rows, length-append (attribute_rows old.attributes) g.so_far.more);
         seen = l.invariant.seen;
-        scope = holds_scope c.args.tag old l.elements src c.args.start l.at g;
-        done = done_within c.args.tag old l.elements src c.args.start l.seen.from l.at g l.invariant.from;
+        scope = holds_scope c.args.tag.declares c.args.tag.scope old l.elements src c.args.start l.at g;
+        done = done_within c.args.tag.declares c.args.tag.scope old l.elements src c.args.start l.seen.from l.at g l.invariant.from;
       };
     }
 
 pub loop-at-preserved-then-declares_at : goal.loop-at-preserved-then-declares_at
-loop-at-preserved-then-declares_at c = grind (arith, seen_kept, holds_declared)
+loop-at-preserved-then-declares_at c =
+    grind (arith, seen_kept, holds_declared)
 
 pub loop-at-preserved : goal.loop-at-preserved
 loop-at-preserved c = grind (arith, holds_more)

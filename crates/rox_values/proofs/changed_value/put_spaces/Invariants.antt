@@ -1,6 +1,6 @@
 use Rattle.std.proofs.Common.{◌≡◌, ◌-◌, length}
 use Rattle.rox_values.proofs.SpacedLemmas.{SpacedUpTo}
-use Rattle.rox_values.proofs.plain_bits.put_spaces.Given as goal
+use Rattle.rox_values.proofs.changed_value.put_spaces.Given as goal
 
 abbrev pub invariant-loop-at : goal.invariant-loop-at
 invariant-loop-at l = record {
