@@ -6,7 +6,7 @@ ghost use Rattle.rox_bytes.specs.ByteSets.{EndsSet, is_stretch_byte};
 ghost use Rattle.rox_storage.specs.Storage.{IsOwnText};
 ghost use Rattle.rox_scan.specs.Lookahead as longer;
 ghost use Rattle.rox_scan.specs.Lookahead.{IsLookahead, none_changes, ends_value};
-ghost use Rattle.rox_attributes.specs.SpacedBytes.{IsAnyValue};
+ghost use Rattle.rox_attributes.specs.SpacedBytes.{IsAnyValue, IsMadeValue};
 ghost use Rattle.rox_verbatim.specs.PlainValues.{BeginsValue, EndsVerbatim};
 ghost use Rattle.rox_reading.specs.Values.{is_special};
 ghost use Rattle.rox_seen.specs.SeenNames.{KeepsCodes};
@@ -16,11 +16,12 @@ ghost use Rattle.rox_values.specs.DeclaredEntities.{AreMainValues};
 use rox_bytes::byte_set::{ValueByte, skip_set};
 use rox_bytes::runs::is_at;
 use rox_scan::lookahead::{ChangedValueByte, StretchByte, after_char, changes};
-use rox_seen::recent_texts::{Recent, owned_value};
+use rox_seen::recent_values::{RecentValues, owned_replacement, owned_value};
 use rox_seen::seen_names::SeenNames;
 use rox_storage::storage::StringStorage;
 use rox_values::changed_value::changed_value;
 use rox_values::context::Context;
+use rox_values::entity_value::entity_value;
 use std::alloc::Global;
 
 /// Returns the end of the Chars from `start` on that are neither `quote` nor `<`.
@@ -99,7 +100,7 @@ fn value_ends(text: &str, start: usize, quote: u8) -> Option<ValueEnds>
 #[inline(always)]
 fn shared_value<'input>(
     alloc: Global,
-    recent: &mut Option<Box<Recent>>,
+    recent: &mut Option<Box<RecentValues>>,
     text: String,
     lacking: &mut bool,
 ) -> Option<StringStorage<'input>>
@@ -110,6 +111,92 @@ fn shared_value<'input>(
         *lacking = true;
     }
     value
+}
+
+/// Returns the value from `start` up to the end of `ends`, which something changes. Returns `None` if it is not valid, or if memory
+/// is refused, which sets `lacking` of `seen`.
+#[inline(always)]
+fn made_value<'input>(
+    text: &'input str,
+    start: usize,
+    ends: ValueEnds,
+    context: &Context<'_, 'input>,
+    seen: &mut SeenNames,
+) -> Option<StringStorage<'input>>
+    requires { HasChange text.now start ends.first ends.end }
+    ensures value { IfSome result (λ v. IsMadeValue (AreMainValues context.entry.now) text.entry.now
+        start ends.end v) }
+    ensures kept { KeepsCodes seen.old seen.new }
+{
+    let changed = changed_value(
+        text,
+        start,
+        ends.first,
+        ends.end,
+        context,
+        &mut seen.lacking,
+    )?;
+    let alloc = context.entities.allocator();
+    shared_value(alloc, &mut seen.values, changed, &mut seen.lacking)
+}
+
+/// Returns true only if a reference is at `at` to a name whose first letter no predefined name has.
+#[inline(always)]
+fn names_other(text: &str, at: usize) -> bool
+    ensures { result ≡ true → slice_index text.now at ≡ 38 }
+{
+    if !is_at(text, at, b'&') || at + 1 >= text.len() {
+        return false;
+    }
+    !matches!(text.as_bytes()[at + 1], b'#' | b'a' | b'g' | b'l' | b'q')
+}
+
+/// Like `made_value`, but for a value that begins with a reference to an entity. Most often that is all of it.
+#[cold]
+#[inline(never)]
+fn referring_value<'input>(
+    text: &'input str,
+    start: usize,
+    ends: ValueEnds,
+    context: &Context<'_, 'input>,
+    seen: &mut SeenNames,
+) -> Option<StringStorage<'input>>
+    requires change { HasChange text.now start ends.first ends.end }
+    requires here { slice_index text.now start ≡ 38 }
+    ensures value { IfSome result (λ v. IsMadeValue (AreMainValues context.entry.now) text.entry.now
+        start ends.end v) }
+    ensures kept { KeepsCodes seen.old seen.new }
+{
+    let Some(named) = entity_value(text, start, ends.end, context) else {
+        return made_value(text, start, ends, context, seen);
+    };
+    let alloc = context.entities.allocator();
+    let replacement = &named.text[named.pos..];
+    let value = owned_replacement(alloc, &mut seen.values, replacement, named.pos);
+    if value.is_none() {
+        seen.lacking = true;
+    }
+    value
+}
+
+/// Returns the value from `start` up to the end of `ends`, which something changes, like `made_value`.
+#[inline(always)]
+fn changed<'input>(
+    text: &'input str,
+    start: usize,
+    ends: ValueEnds,
+    context: &Context<'_, 'input>,
+    seen: &mut SeenNames,
+) -> Option<StringStorage<'input>>
+    requires { HasChange text.now start ends.first ends.end }
+    ensures value { IfSome result (λ v. IsMadeValue (AreMainValues context.entry.now) text.entry.now
+        start ends.end v) }
+    ensures kept { KeepsCodes seen.old seen.new }
+{
+    if names_other(text, start) {
+        return referring_value(text, start, ends, context, seen);
+    }
+    made_value(text, start, ends, context, seen)
 }
 
 /// A value, and the offset at which it ends.
@@ -139,8 +226,6 @@ pub fn any_value<'input>(
         let value = StringStorage::Borrowed(&text[start..end]);
         return Some(AnyValue { value, end });
     }
-    let changed = changed_value(text, start, ends.first, end, context, &mut seen.lacking)?;
-    let alloc = context.entities.allocator();
-    let value = shared_value(alloc, &mut seen.values, changed, &mut seen.lacking)?;
+    let value = changed(text, start, ends, context, seen)?;
     Some(AnyValue { value, end })
 }

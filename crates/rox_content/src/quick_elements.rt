@@ -163,29 +163,6 @@ fn element_repeating<'input>(
     element_of_head(text, start, builder, context, head)
 }
 
-/// Like `element_of_head`, but also reads the tag if it declares what an earlier one declared. The first part of its name ends at
-/// `part`.
-#[inline(always)]
-fn element_of_head_or_repeating<'input>(
-    text: &'input str,
-    start: usize,
-    builder: &mut Builder<'input>,
-    context: &Context<'_, 'input>,
-    head: TagHead<'input>,
-    part: usize,
-) -> usize
-    requires head { MayReadHead text.now start builder.old head }
-    requires part { MayReadPart text.now start part builder.old }
-    ensures { ReadsAt (HasMainValues context.entry.now) machine.tag_step text.entry.now start result
-        builder.old builder.new }
-{
-    let end = element_of_head(text, start, builder, context, head);
-    if end <= MOST_BYTES {
-        return end;
-    }
-    element_repeating(text, start, builder, context, part)
-}
-
 /// Reads a start tag, from its `<` at `start`, if it is plain. The first part of its name ends at `part`. Returns the offset
 /// after it, or `NOT_READ`. It is out of line: few tags have a name that `element` does not read.
 #[inline(never)]
@@ -210,7 +187,11 @@ fn element_in_scope<'input>(
     let Some(head) = head_in_scope(text, place, &builder.tables, parent, near) else {
         return element_repeating(text, start, builder, context, part);
     };
-    element_of_head_or_repeating(text, start, builder, context, head, part)
+    let end = element_of_head(text, start, builder, context, head);
+    if end <= MOST_BYTES {
+        return end;
+    }
+    element_repeating(text, start, builder, context, part)
 }
 
 /// Like `element_in_scope`, but the first ASCII bytes of the name end as `run` says.
@@ -239,5 +220,9 @@ pub fn element<'input>(
         }
         return element_in_scope(text, start, builder, context, part);
     };
-    element_of_head_or_repeating(text, start, builder, context, head, part)
+    let end = element_of_head(text, start, builder, context, head);
+    if end <= MOST_BYTES {
+        return end;
+    }
+    element_repeating(text, start, builder, context, part)
 }

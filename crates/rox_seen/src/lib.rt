@@ -2,4 +2,5 @@
 #![tactic(auto)]
 
 pub mod recent_texts;
+pub mod recent_values;
 pub mod seen_names;

@@ -4,7 +4,7 @@ ghost use Rattle.std.specs.Prelude.{◌≡◌, ◌+◌, ◌-◌, ◌^◌, ◌<�
 ghost use Rattle.rox_rows.specs.Rows.{attribute_rows};
 ghost use Rattle.rox_seen.specs.SeenNames.{most_again, name_sum, AreSeen, PutsCode, SeesAll, TellsSeen, name_code};
 
-use crate::recent_texts::Recent;
+use crate::recent_values::RecentValues;
 use rox_compare::compare::{WORD, word_at};
 use rox_rows::attributes::AttributeTable;
 
@@ -21,7 +21,7 @@ pub struct SeenNames {
     /// Where prefixes were found among the places of their scopes, in all tags. `prefix_cache.rt` of `rox_attributes` says how.
     pub near: usize,
     /// The owned values stored for sharing, of all tags; `None` before there is one.
-    pub values: Option<Box<Recent>>,
+    pub values: Option<Box<RecentValues>>,
     /// Whether memory was refused for what the fast path wanted to put.
     pub lacking: bool,
 }

@@ -10,6 +10,7 @@ pub mod ValueOpening
 pub mod SectionLemmas
 pub mod Lifting
 pub mod MainValues
+pub mod EntityValues
 pub mod BitLemmas
 pub mod SpacedLemmas
 pub mod StopLemmas

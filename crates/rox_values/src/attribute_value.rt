@@ -27,7 +27,7 @@ use rox_scan::raw_attribute::RawAttribute;
 /// out of memory then, unless the reference is a fault in a value.
 #[inline(always)]
 #[tactic(auto, unfolding(rox_reading::specs::Values::value_reference_at))]
-fn named_text<'input>(
+pub(crate) fn named_text<'input>(
     text: &'input str,
     at: usize,
     context: Context<'_, 'input>,

@@ -6,6 +6,7 @@ pub mod changed_value;
 pub mod character_data;
 pub mod context;
 pub mod entities;
+pub mod entity_value;
 pub mod line_ends;
 pub mod parse_error;
 pub mod plain_bits;
