@@ -150,11 +150,11 @@ fn put_any_attribute<'input>(
     text: &'input str,
     place: NamePlace,
     elements: &mut ElementTables<'input>,
-    within: TagContext<'_, '_, 'input>,
+    within: &TagContext<'_, '_, 'input>,
     seen: &mut SeenNames,
 ) -> usize
-    requires { MayPutPart text.now place elements.old within.scope seen.old }
-    ensures { PutsPlain elements.old elements.new within.entry seen.old seen.new text.entry.now
+    requires { MayPutPart text.now place elements.old within.now.scope seen.old }
+    ensures { PutsPlain elements.old elements.new within.entry.now seen.old seen.new text.entry.now
         place.start result }
 {
     let Some(one) = any_attribute(text, place, within.context, seen) else {
@@ -180,19 +180,19 @@ fn put_any_attribute<'input>(
     }
 }
 
-/// Like `put_any_attribute`, but where the first ASCII bytes of its name end is looked for. The function is out of line, so that the
-/// loop over attributes is small enough to be in line.
+/// Like `put_any_attribute`, but where the first ASCII bytes of its name end is looked for. The function is out of line, so that
+/// the loop over attributes is small enough to be in line.
 #[cold]
 #[inline(never)]
 fn put_any_attribute_at<'input>(
     text: &'input str,
     start: usize,
     elements: &mut ElementTables<'input>,
-    within: TagContext<'_, '_, 'input>,
+    within: &TagContext<'_, '_, 'input>,
     seen: &mut SeenNames,
 ) -> usize
-    requires { MayPut text.now start elements.old within.scope seen.old }
-    ensures { PutsPlain elements.old elements.new within.entry seen.old seen.new text.entry.now
+    requires { MayPut text.now start elements.old within.now.scope seen.old }
+    ensures { PutsPlain elements.old elements.new within.entry.now seen.old seen.new text.entry.now
         start result }
 {
     let part = skip_set::<PartByte>(text, start);
@@ -217,11 +217,11 @@ fn put_named_attribute<'input>(
     text: &'input str,
     read: NamedAttribute<'input>,
     elements: &mut ElementTables<'input>,
-    within: TagContext<'_, '_, 'input>,
+    within: &TagContext<'_, '_, 'input>,
     seen: &mut SeenNames,
 ) -> Option<usize>
-    requires { MayPutNamed text.now read elements.old within.scope seen.old }
-    ensures { PutsSome elements.old elements.new within.entry seen.old seen.new text.entry.now
+    requires { MayPutNamed text.now read elements.old within.now.scope seen.old }
+    ensures { PutsSome elements.old elements.new within.entry.now seen.old seen.new text.entry.now
         read.entry.start result }
 {
     let start = read.start;
@@ -257,11 +257,11 @@ fn put_prefixed_attribute<'input>(
     text: &'input str,
     place: NamePlace,
     elements: &mut ElementTables<'input>,
-    within: TagContext<'_, '_, 'input>,
+    within: &TagContext<'_, '_, 'input>,
     seen: &mut SeenNames,
 ) -> usize
-    requires { MayPutPart text.now place elements.old within.scope seen.old }
-    ensures { PutsPlain elements.old elements.new within.entry seen.old seen.new text.entry.now
+    requires { MayPutPart text.now place elements.old within.now.scope seen.old }
+    ensures { PutsPlain elements.old elements.new within.entry.now seen.old seen.new text.entry.now
         place.start result }
 {
     let NamePlace { start, part } = place;
@@ -301,11 +301,11 @@ fn put_long_attribute<'input>(
     text: &'input str,
     start: usize,
     elements: &mut ElementTables<'input>,
-    within: TagContext<'_, '_, 'input>,
+    within: &TagContext<'_, '_, 'input>,
     seen: &mut SeenNames,
 ) -> usize
-    requires { MayPut text.now start elements.old within.scope seen.old }
-    ensures { PutsPlain elements.old elements.new within.entry seen.old seen.new text.entry.now
+    requires { MayPut text.now start elements.old within.now.scope seen.old }
+    ensures { PutsPlain elements.old elements.new within.entry.now seen.old seen.new text.entry.now
         start result }
 {
     let part = skip_set::<PartByte>(text, start);
@@ -336,11 +336,11 @@ pub fn put_attribute<'input>(
     text: &'input str,
     start: usize,
     elements: &mut ElementTables<'input>,
-    within: TagContext<'_, '_, 'input>,
+    within: &TagContext<'_, '_, 'input>,
     seen: &mut SeenNames,
 ) -> Option<usize>
-    requires { MayPut text.now start elements.old within.scope seen.old }
-    ensures { PutsSome elements.old elements.new within.entry seen.old seen.new text.entry.now
+    requires { MayPut text.now start elements.old within.now.scope seen.old }
+    ensures { PutsSome elements.old elements.new within.entry.now seen.old seen.new text.entry.now
         start result }
 {
     if text.len() - start < WIDTH {

@@ -50,8 +50,8 @@ pub record ScansWithin (read : machine.Context → List ℕ → State → Result
   pub value : (limit end : ℕ) (es : List Entity) (s : State) → IsInState limit end s old b → ScansTo limit end result new after (read (context_of limit es context) old.text.now s)
   pub goes : OnOk result (GoesOn old new after)
 
--- The construct at `i` was read as `read` does, up to `j`, in a context that meets `such`, or nothing was. If it was read, `j` fits a row and is
--- after `i`, and the rows were put into the room that there was.
+-- The construct at `i` was read as `read` does, up to `j`, in a context that meets `such`, or nothing was. If it was read, `j` fits
+-- a row and is after `i`, and the rows were put into the room that there was.
 pub record ReadsAt (such : machine.Context → Type 0) (read : machine.Context → List ℕ → State → Result State Refusal) (src : List ℕ) (i j : ℕ) (b after : Builder) : Type 0 where
   pub value : j < 2 ^ 32 → (context : machine.Context) (end : ℕ) (s : State) (here behind : Cursor) → such context → here.pos ≡ i → behind.pos ≡ j → IsInState context.limit end s here b
       → ScansTo context.limit end (Ok tt) behind after (read context src s)

@@ -41,8 +41,8 @@ fn own<'input>(text: String) -> Result<StringStorage<'input>, AllocError>
     Ok(StringStorage::Owned(RcStr::from_string(text)?))
 }
 
-/// Returns a made value as an owned text, which shares its storage with an equal stored one. The tables are allocated with the first
-/// value shorter than `LONG` bytes. Returns `None` if memory is refused.
+/// Returns a made value as an owned text, which shares its storage with an equal stored one. The tables are allocated with the
+/// first value shorter than `LONG` bytes. Returns `None` if memory is refused.
 #[inline(always)]
 pub fn owned_value<'input>(
     alloc: Global,

@@ -148,8 +148,8 @@ pub record HoldsSoFar (such : Values → Type 0) (may : Bool) (n : ℕ) (old now
   pub declares : DeclaresIn may old now n own
   pub so_far : PlainSoFar such may (map namespace_view old.namespaces.items.items) (map namespace_view now.namespaces.items.items) (scope_in_tables now n) own src start (attribute_rows old.attributes) i (attribute_rows now.attributes)
 
--- If values are read `such`, a tag has the attributes `written` from `start` up to its end at `end`, where it declares `own`. The turns that
--- are left at `start` are enough, and the tag may declare something before if `declares` is false.
+-- If values are read `such`, a tag has the attributes `written` from `start` up to its end at `end`, where it declares `own`. The
+-- turns that are left at `start` are enough, and the tag may declare something before if `declares` is false.
 abbrev pub ReadsUpTo : (such : Values → Type 0) (declares : Bool) (known own : List NamespaceDecl) (written : List Attribute) (src : List ℕ) (start end : ℕ) (empty : Bool) → Type 0
 ReadsUpTo such declares known own written src start end empty = (context : Values) → such context → (cut : Fault) (openings_left turns : ℕ) (before : List NamespaceDecl) → length src ≤ turns + start → MayFollow declares before
     → attributes_at turns context cut known src start openings_left (holding before [])

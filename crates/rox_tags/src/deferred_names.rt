@@ -25,8 +25,8 @@ use rox_starts::tag::{MOST_ATTRIBUTES, ROOM_OF_A_TAG};
 use rox_values::context::Context;
 use rox_verbatim::quick_name::NamePlace;
 
-/// Appends the attribute at `start` to `taken` of the buffers. Returns the offset after it, or `None` if it is not plain or declares
-/// a namespace. Sets `lacking` if memory was refused.
+/// Appends the attribute at `start` to `taken` of the buffers. Returns the offset after it, or `None` if it is not plain or
+/// declares a namespace. Sets `lacking` if memory was refused.
 #[inline(always)]
 fn take_attribute<'input>(
     text: &'input str,

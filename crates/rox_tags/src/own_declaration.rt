@@ -74,8 +74,8 @@ fn declared_name<'input>(text: &'input str, start: usize) -> Option<NameAt<'inpu
     Some(name_without_prefix(text, start, part))
 }
 
-/// Returns the declaration that starts with the `xmlns` at `start`, if `=` and a quote are right after its name and its value needs no
-/// replacement.
+/// Returns the declaration that starts with the `xmlns` at `start`, if `=` and a quote are right after its name and its value needs
+/// no replacement.
 #[inline(always)]
 fn plain_declaration<'input>(text: &'input str, start: usize) -> Option<UnresolvedAttribute<'input>>
     requires { HasXmlns text.now start }

@@ -154,7 +154,7 @@ pub fn tag_attributes<'input>(
         if declares_at(text, next.at, tag) {
             at = put_declaration(text, next.at, elements, tag.context, seen)?;
         } else {
-            at = put_attribute(text, next.at, elements, within, seen)?;
+            at = put_attribute(text, next.at, elements, &within, seen)?;
         }
     }
     None

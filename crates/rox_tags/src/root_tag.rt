@@ -1,6 +1,6 @@
 //! The start tag of a root element by the fast path, with its declarations, read into the tables of its elements.
 
-ghost use Rattle.std.specs.Prelude.{◌≡◌, [], IfOk, OnOk, length, slice_index, take, true, ◌<◌, ◌^◌, IsCharBoundary};
+ghost use Rattle.std.specs.Prelude.{◌≡◌, [], IfOk, OnOk, length, slice_index, true, ◌<◌, ◌^◌, IsCharBoundary};
 ghost use Rattle.rox_rows.specs.Rows.{attribute_rows};
 ghost use Rattle.rox_names.specs.declared.tables.ElementTables.{ElementTables};
 ghost use Rattle.rox_tags.specs.RootTag.{BeginsOwn, BeginsScopes, GivesRootTag, IsBlank, ReadsRootTag, TakesBack};

@@ -1,5 +1,5 @@
 -- A value of the main text neither uses nor changes how many replacement texts may be opened.
-use Rattle.std.proofs.Common.{◌≡◌, ℕ, zero, suc, ◌-◌, ◌≤◌, Bool, true, false, Option, Some, None, IfSome, List, [], Result, Ok, Err, if◌then◌else◌, refl, subst, arith}
+use Rattle.std.proofs.Common.{◌≡◌, ℕ, zero, suc, ◌-◌, ◌≤◌, Bool, true, false, Option, Some, None, IfOk, IfSome, List, [], Result, Ok, Err, if◌then◌else◌, refl, subst, arith}
 use Rattle.std.specs.Prelude.{String, string_bytes}
 use Rattle.std.specs.declared.alloc.Global.{Global}
 use Rattle.rox_grammar.specs.Entities.{Replacement, Entity}
@@ -90,6 +90,11 @@ rest_none values src old new stop i j main p past = λ bits enough openings_left
     let same = q.1.1 values.entities values.opener openings_left in
     let done = value_done true values.entities values.opener openings_left new q.0 src stop j past in
     grind (arith, main)
+
+pub rest_where : {E : Type 0} (x : Context) (r : Result Bool E) (src old mid new : List ℕ) (stop i j : ℕ) → PutsBits true src i stop old mid j → IfOk r (λ put. put ≡ true → (values : Values) → AreMainValues x values → PutsRest values src j stop mid new)
+    → IfOk r (λ put. put ≡ true → (values : Values) → AreMainValues x values → PutsRest values src i stop old new)
+rest_where x (Ok put) src old mid new stop i j p h = λ yes values is. rest_behind values src old mid new stop i j (of_main x values is) p (h yes values is)
+rest_where x (Err e) src old mid new stop i j p h = tt
 
 pub none_behind : (read : Result (List ℕ × ℕ) Refusal) (new : List ℕ) (openings_left : ℕ) → text_behind [] read ≡ Ok (new, openings_left) → read ≡ Ok (new, openings_left)
 none_behind (Ok x) new openings_left h = h

@@ -1,7 +1,7 @@
 //! The values of the main text that something changes: a reference, or white space other than spaces (XML 1.0 sections 3.3.3 and
 //! 4.1). The fast path reads them. It tells no fault: a value that it does not read is read again by the general step.
 
-ghost use Rattle.std.specs.Prelude.{◌≡◌, ◌-◌, ℕ, Ok, IfSome, map, true, string_bytes, ◌<◌, ◌≤◌, IsCharBoundary};
+ghost use Rattle.std.specs.Prelude.{◌≡◌, ◌-◌, ℕ, Ok, IfOk, IfSome, map, true, string_bytes, ◌<◌, ◌≤◌, IsCharBoundary};
 ghost use Rattle.rox_bytes.specs.ByteSets.{AllPass, is_run_byte};
 ghost use Rattle.rox_reading.specs.Tags.{Values};
 ghost use Rattle.rox_reading.specs.Values as spec;
@@ -17,7 +17,7 @@ use rox_bytes::byte_set::skip_set;
 use rox_bytes::runs::is_at;
 use rox_scan::cursor::Cursor;
 use rox_scan::lookahead::{RunByte, StretchByte};
-use std::alloc::Global;
+use std::alloc::{AllocError, Global};
 
 /// Returns a space for a TAB or a LF, and any other byte as it is.
 #[inline(always)]
@@ -41,8 +41,8 @@ fn put_spaces(bytes: &mut [u8])
     }
 }
 
-/// Returns a text with a space for each TAB and LF. Returns `None` if memory is refused, which sets `lacking`. The function is out of
-/// line so that other values, which have a few of them, are read as before.
+/// Returns a text with a space for each TAB and LF. Returns `None` if memory is refused, which sets `lacking`. The function is out
+/// of line so that other values, which have a few of them, are read as before.
 #[inline(never)]
 fn spaced_text(alloc: Global, text: &str, lacking: &mut bool) -> Option<String>
     ensures { IfSome result (λ s. string_bytes s ≡ map spaced_byte text.now) }
@@ -72,15 +72,15 @@ fn is_spaced(text: &str, start: usize, first: usize, stop: usize) -> bool
     next < stop && next - first < 16 && skip_set::<RunByte>(&text[..stop], first) >= stop
 }
 
-/// Returns whether the room of `count` bytes is too large for a text of `len` bytes: references can be far longer than the characters
-/// that they give. Allocators give hardly less than 24 bytes.
+/// Returns whether the room of `count` bytes is too large for a text of `len` bytes: references can be far longer than the
+/// characters that they give. Allocators give hardly less than 24 bytes.
 #[inline(always)]
 fn is_roomy(len: usize, count: usize) -> bool {
     count > 24 && len < count / 4 * 3
 }
 
-/// Appends the rest of a value of the main text, from `at` up to `stop`. Returns false if it is not valid, or if memory is refused,
-/// which sets `lacking`. The function is out of line, as few values have a rest: it starts with a reference to an entity.
+/// Appends the rest of a value of the main text, from `at` up to `stop`. Returns false if it is not valid. It fails only if memory
+/// is refused. The function is out of line, as few values have a rest: it starts with a reference to an entity.
 #[cold]
 #[inline(never)]
 fn put_rest<'input>(
@@ -89,24 +89,21 @@ fn put_rest<'input>(
     stop: usize,
     context: &Context<'_, 'input>,
     out: &mut String,
-    lacking: &mut bool,
-) -> bool
+) -> Result<bool, AllocError>
     requires start { IsCharBoundary text.now at }
     requires stop { IsCharBoundary text.now stop }
-    ensures { result ≡ true → (values : Values) → AreMainValues context.entry.now values
-        → PutsRest values text.entry.now at stop (string_bytes out.old) (string_bytes out.new) }
+    ensures { IfOk result (λ put. put ≡ true → (values : Values) → AreMainValues context.entry.now
+        values → PutsRest values text.entry.now at stop (string_bytes out.old) (string_bytes out.new)) }
 {
     match value_text(Cursor::at(text, at), stop, *context, 0, out) {
-        Ok(_) => true,
-        Err(ParseError::Memory) => {
-            *lacking = true;
-            false
-        }
-        Err(_) => false,
+        Ok(_) => Ok(true),
+        Err(ParseError::Memory) => Err(AllocError),
+        Err(_) => Ok(false),
     }
 }
 
-/// Appends the value of the main text from `from` up to `stop`. Returns false where `put_rest` does.
+/// Appends the value of the main text from `from` up to `stop`. Returns false if it is not valid. It fails only if memory is
+/// refused.
 #[inline(always)]
 fn put_value<'input>(
     text: &'input str,
@@ -114,14 +111,16 @@ fn put_value<'input>(
     stop: usize,
     context: &Context<'_, 'input>,
     out: &mut String,
-    lacking: &mut bool,
-) -> bool
+) -> Result<bool, AllocError>
     requires { IsRest text.now from stop }
-    ensures { result ≡ true → (values : Values) → AreMainValues context.entry.now values
-        → PutsRest values text.entry.now from stop (string_bytes out.old) (string_bytes out.new) }
+    ensures { IfOk result (λ put. put ≡ true → (values : Values) → AreMainValues context.entry.now
+        values → PutsRest values text.entry.now from stop (string_bytes out.old) (string_bytes out.new)) }
 {
     let at = put_plain_bits(text, from, stop, true, out);
-    at >= stop || put_rest(text, at, stop, context, out, lacking)
+    if at >= stop {
+        return Ok(true);
+    }
+    put_rest(text, at, stop, context, out)
 }
 
 /// Returns the value of the main text from `start` up to `stop`, or `None` if it is not valid, or if memory is refused, which sets
@@ -153,7 +152,11 @@ pub fn changed_value<'input>(
     if out.push_str(&text[start..first]).is_err() {
         return None;
     }
-    if !put_value(text, first, stop, context, &mut out, lacking) {
+    let Ok(put) = put_value(text, first, stop, context, &mut out) else {
+        *lacking = true;
+        return None;
+    };
+    if !put {
         return None;
     }
     if is_roomy(out.len(), count) {

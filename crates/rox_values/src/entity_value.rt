@@ -1,7 +1,7 @@
 //! Values that consist of a reference to an entity (XML 1.0 section 4.4.5), read by the fast path. Adobe Illustrator writes such
 //! values: `style="&st0;"`.
 
-ghost use Rattle.std.specs.Prelude.{drop, ◌-◌, ◌<◌, ℕ, Ok, IfSome, ◌≡◌, IsCharBoundary};
+ghost use Rattle.std.specs.Prelude.{drop, ◌-◌, ◌<◌, ℕ, Ok, IfSome, ◌≡◌};
 ghost use Rattle.rox_reading.specs.Tags.{Values};
 ghost use Rattle.rox_reading.specs.Values as spec;
 ghost use Rattle.rox_values.specs.DeclaredEntities.{AreMainValues};

@@ -1,12 +1,11 @@
 //! The items of attribute values that need no entity: characters, references to characters, and white space (XML 1.0 sections 3.3.3
 //! and 4.1). They are appended one after another, up to a reference to an entity, a fault, or the end of memory.
 
-ghost use Rattle.std.specs.Prelude.{◌≡◌, ◌-◌, ◌≤◌, ℕ, Bool, List, Ok, IfNone, IfSome, map, true, string_bytes, string_capacity, string_len, slice_index, ◌≢◌, false, ◌<◌, IfOk, IsCharBoundary};
+ghost use Rattle.std.specs.Prelude.{◌≡◌, ◌-◌, ◌≤◌, ℕ, Bool, Ok, IfNone, IfSome, true, string_bytes, string_capacity, string_len, slice_index, ◌≢◌, false, ◌<◌, IfOk, IsCharBoundary};
 ghost use Rattle.rox_grammar.specs.Entities.{Entity};
-ghost use Rattle.rox_bytes.specs.ByteSets.{AllPass, is_run_byte};
 ghost use Rattle.rox_reading.specs.Values as spec;
 ghost use Rattle.rox_values.specs.Values.{is_inner_byte, StopsAt};
-ghost use Rattle.rox_values.specs.PlainBits.{BeginsBit, BeginsReference, BeginsStretch, GivesCharacter, GivesNoBytes, HasChange, HasNoCharacter, IsRest, IsStretch, PutsBits, PutsOne, StopsAtOne, StopsWithRoom, spaced_byte, GivesStretch};
+ghost use Rattle.rox_values.specs.PlainBits.{BeginsBit, BeginsReference, BeginsStretch, GivesCharacter, GivesNoBytes, HasNoCharacter, IsRest, IsStretch, PutsBits, PutsOne, StopsAtOne, StopsWithRoom, GivesStretch};
 ghost use Rattle.rox_reading.specs.Values.{stretch_at};
 
 use crate::reference::{Reference, read_reference};
@@ -15,8 +14,7 @@ use rox_bytes::nibbles::by_low;
 use rox_bytes::runs::is_at;
 use rox_grammar::fault::Fault;
 use rox_scan::cursor::Cursor;
-use rox_scan::lookahead::{RunByte, StretchByte, is_special};
-use std::alloc::Global;
+use rox_scan::lookahead::{StretchByte, is_special};
 use std::simd::prelude::*;
 
 /// Appends a space for the white space byte at `at`, or nothing for a CR right before a LF. Returns the offset after the byte, or 0

@@ -19,8 +19,8 @@ returns-then-put_attribute_of c =
         one = c.in-Some.one;
         plain = c.in-Some.ensures.read;
         other = sym c.is_namespace_decl.ensures ∙ c.if-is_namespace_decl.false;
-        added = subst (λ m. AddsResolved namespaces (few_in t c.args.within.scope) t.present m (attribute_rows t.attributes) (attribute_rows c.put_attribute_of.new.attributes) c.in-Some.one) c.in-Some.ensures.kept.from
-            (adds_row namespaces (few_in t c.args.within.scope) t.present c.any_attribute.new.seen.from (attribute_rows t.attributes) _ c.in-Some.one space put.rows
+        added = subst (λ m. AddsResolved namespaces (few_in t c.args.within.now.scope) t.present m (attribute_rows t.attributes) (attribute_rows c.put_attribute_of.new.attributes) c.in-Some.one) c.in-Some.ensures.kept.from
+            (adds_row namespaces (few_in t c.args.within.now.scope) t.present c.any_attribute.new.seen.from (attribute_rows t.attributes) _ c.in-Some.one space put.rows
             (subst (λ m. NamespaceWithin m space) (sym (length-map t.namespaces.items.items namespace_view)) found.within)
             (λ scope h. found.there scope h) (λ scope h. found.known scope h) put.first);
         end = refl;

@@ -58,7 +58,7 @@ returns c =
       compact = omega arith;
       ends = omega (arith, long, size);
     } in
-    let plain : IsPlainAttribute (AreMainValues c.args.within.context.now) src i one = record {
+    let plain : IsPlainAttribute (AreMainValues c.args.within.now.context.now) src i one = record {
       value_end = j;
       read = attribute_reads src i (name_view name) n s q j e c.requires.named.value v here is_quote (not_zero q is_quote) (rw there at w.read) (w.here ∙ there) done;
       start = refl;
@@ -82,7 +82,7 @@ returns c =
           one = one;
           plain = plain;
           other = sym c.is_namespace_decl.ensures ∙ c.if-is_namespace_decl.false;
-          added = adds_compact namespaces (few_in t c.args.within.scope) t.present c.args.seen.now.from (attribute_rows t.attributes) _ one compact space
+          added = adds_compact namespaces (few_in t c.args.within.now.scope) t.present c.args.seen.now.from (attribute_rows t.attributes) _ one compact space
               (ap (λ (p : AttributePlaces). (record { local = name.local; value = Borrowed value; namespace = space }, p)) (sym places))
               (put.added true).rows (subst (λ m. NamespaceWithin m space) (sym (length-map t.namespaces.items.items namespace_view)) found.within)
               (λ scope h. found.there scope h) (λ scope h. found.known scope h) (put.added true).first;

@@ -39,6 +39,6 @@ returns c = λ values is openings_left.
     let front : string_bytes c.push_str.new.self ≡ slice_range src i j = rw (c.in-Ok.ensures.bytes, c.range-2.ensures.value) at put in
     let f = front_put src (string_bytes c.push_str.new.self) c.args.stop i j (record { start = c.requires.start; stop = c.requires.stop }) c.requires.before c.requires.front front in
     let main = of_main _ values is in
-    let read = rest_behind values src [] (string_bytes c.push_str.new.self) (string_bytes c.put_value.new.out) stop i j main f (c.put_value.ensures c.if-not-put_value.false values is) (stop - i) (omega arith) openings_left in
+    let read = rest_behind values src [] (string_bytes c.push_str.new.self) (string_bytes c.put_value.new.out) stop i j main f (c.in-Ok-put_value.ensures c.if-not-put.false values is) (stop - i) (omega arith) openings_left in
     let whole = none_behind _ _ _ read in
     grind arith
